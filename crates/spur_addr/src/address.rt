@@ -1,0 +1,123 @@
+//! Global virtual addresses, and where the page-table entry of an address stands.
+
+ghost use Rattle.std.specs.Prelude.{◌≡◌, ◌+◌, ◌<◌, ◌^◌, ◌↔◌, IfSome, IsSome};
+ghost use Rattle.spur_addr.specs.Address.{block_of, entry_address_of, global_of, page_of, root_place_of, root_start, word_in_block_of};
+
+use std::marker::Model;
+
+/// One past the last global virtual address.
+const END: u64 = 1 << 38;
+
+/// The first address of segment 255, in which the page table stands.
+const TABLE_START: u64 = 255 << 30;
+
+/// The part of a process address that stays as it is: its place within the segment.
+const WITHIN_SEGMENT: u32 = 0x3fff_ffff;
+
+/// A global virtual address: the number of a byte, below 2^38.
+///
+/// Contracts see the number. SPUR has one space of these addresses for all processes: 256 segments
+/// of 2^30 bytes, in pages of 4096 bytes, blocks of 32 bytes and words of 4 bytes.
+#[derive(Clone, Copy, Debug, PartialEq, Eq)]
+pub struct GlobalAddr {
+    number: u64,
+}
+
+impl Model for GlobalAddr {
+    ghost use Rattle.std.specs.Prelude.{ℕ, ◌<◌, ◌^◌};
+
+    ghost Value = { ℕ };
+
+    ghost view = { λ a. a.number };
+
+    ghost invariant = { λ a. a.number < 2 ^ 38 };
+
+    ghost inverse = { λ n. record { number = n } };
+}
+
+impl GlobalAddr {
+    /// The address of the byte with this number; `None` exactly at 2^38 and above.
+    pub fn of(number: u64) -> Option<GlobalAddr>
+        ensures exact { IsSome result ↔ (number < 2 ^ 38) }
+        ensures value { IfSome result (λ at. at ≡ number) }
+    {
+        if number < END {
+            Some(GlobalAddr { number })
+        } else {
+            None
+        }
+    }
+
+    /// The number of the byte, below 2^38.
+    pub fn number(self) -> u64
+        ensures value { result ≡ self }
+        ensures small { self < 2 ^ 38 }
+    {
+        self.number
+    }
+
+    /// The number of the page of 4096 bytes that the byte is in, below 2^26.
+    pub fn page(self) -> u32
+        ensures value { result ≡ page_of self }
+        ensures small { page_of self < 2 ^ 26 }
+    {
+        (self.number >> 12) as u32
+    }
+
+    /// The number of the block of 32 bytes that the byte is in, below 2^33: what a cache line holds.
+    pub fn block(self) -> u64
+        ensures value { result ≡ block_of self }
+        ensures small { block_of self < 2 ^ 33 }
+    {
+        self.number >> 5
+    }
+
+    /// Which of its block's eight words the byte is in, from 0 to 7.
+    pub fn word_in_block(self) -> u32
+        ensures value { result ≡ word_in_block_of self }
+        ensures small { word_in_block_of self < 8 }
+    {
+        (self.number >> 2 & 7) as u32
+    }
+}
+
+/// The global address of the process address `va` under four segment registers.
+///
+/// As in SPUR the top two bits of `va` choose a register, whose segment takes their place; the low
+/// 30 bits stay.
+pub fn global(segs: &[u8; 4], va: u32) -> GlobalAddr
+    ensures value { result ≡ global_of segs.now va }
+    ensures small { global_of segs.now va < 2 ^ 38 }
+{
+    let segment = segs[(va >> 30) as usize];
+    GlobalAddr {
+        number: (segment as u64) << 30 | (va & WITHIN_SEGMENT) as u64,
+    }
+}
+
+/// The address of the page-table entry of the page that `at` is in.
+///
+/// This project's profile puts the table at the start of segment 255, with an entry of 4 bytes for
+/// each page in the order of their numbers. The entry of a page of the table is in the root.
+pub fn pte_of(at: GlobalAddr) -> GlobalAddr
+    ensures value { result ≡ entry_address_of at }
+    ensures small { entry_address_of at < 2 ^ 38 }
+{
+    GlobalAddr {
+        number: TABLE_START | at.number >> 12 << 2,
+    }
+}
+
+/// The physical byte at which the root entry of `at` stands, below 2^18 and a multiple of 4.
+///
+/// This is the entry of that page of the table which holds the entry of `at`. The root lies at the
+/// start of the physical memory, so the place there is also the distance of the entry's address
+/// from the root's.
+pub fn root_place(at: GlobalAddr) -> u32
+    ensures value { result ≡ root_place_of at }
+    ensures small { root_place_of at < 2 ^ 18 }
+    ensures in_root { entry_address_of (entry_address_of at) ≡ root_start + root_place_of at }
+{
+    (at.number >> 22 << 2) as u32
+}
+
