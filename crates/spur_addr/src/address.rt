@@ -121,3 +121,58 @@ pub fn root_place(at: GlobalAddr) -> u32
     (at.number >> 22 << 2) as u32
 }
 
+#[cfg(test)]
+mod tests {
+    use super::*;
+    use std::test::Fail;
+
+    #[test]
+    fn an_address_has_a_page_a_block_a_word_and_its_entries(rt: HostRuntime) -> Result<(), Fail> {
+        let rows = [
+            (0x40, 0, 2, 0, 0x3f_c000_0000, 0x3f_cff0_0000, 0),
+            (
+                0x1234_5678,
+                0x1_2345,
+                0x91_a2b3,
+                6,
+                0x3f_c004_8d14,
+                0x3f_cff0_0120,
+                0x120,
+            ),
+            (
+                0x3f_ffff_ffff,
+                0x3ff_ffff,
+                0x1_ffff_ffff,
+                7,
+                0x3f_cfff_fffc,
+                0x3f_cff3_fffc,
+                0x3_fffc,
+            ),
+        ];
+        for (number, page, block, word, entry, root_entry, place) in rows {
+            let at = GlobalAddr::of(number).ok_or("no address")?;
+            assert_eq!(rt; at.number(), number);
+            assert_eq!(rt; at.page(), page);
+            assert_eq!(rt; at.block(), block);
+            assert_eq!(rt; at.word_in_block(), word);
+            assert_eq!(rt; pte_of(at).number(), entry);
+            assert_eq!(rt; pte_of(pte_of(at)).number(), root_entry);
+            assert_eq!(rt; root_place(at), place);
+        }
+        assert_eq!(rt; GlobalAddr::of(0x40_0000_0000), None);
+        Ok(())
+    }
+
+    #[test]
+    fn a_segment_register_takes_the_place_of_the_top_two_bits(rt: HostRuntime) {
+        let rows = [
+            (0x40, 0x4000_0040),
+            (0x7fff_ffff, 0xbfff_ffff),
+            (0x8000_0000, 0x1_0000_0000),
+            (0xc000_0044, 0x3f_c000_0044),
+        ];
+        for (va, number) in rows {
+            assert_eq!(rt; global(&[1, 2, 4, 255], va).number(), number);
+        }
+    }
+}

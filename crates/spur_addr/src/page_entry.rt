@@ -231,3 +231,75 @@ fn protection_bits(protection: Protection) -> EntryBits
     }
 }
 
+#[cfg(test)]
+mod tests {
+    use super::*;
+    use std::test::Fail;
+
+    #[test]
+    fn a_word_has_its_flags_its_protection_and_its_number(rt: HostRuntime) -> Result<(), Fail> {
+        let rows = [
+            (
+                0x0004_0017,
+                [true, true, true, false, false],
+                Protection::ReadWrite,
+                64,
+            ),
+            (
+                0x0000_0030,
+                [false, false, false, true, false],
+                Protection::ReadWrite,
+                0,
+            ),
+            (
+                0x0004_1013,
+                [true, true, false, false, false],
+                Protection::ReadWrite,
+                65,
+            ),
+            (
+                0x0004_104b,
+                [true, true, false, false, true],
+                Protection::ReadOnly,
+                65,
+            ),
+            (
+                0xffff_f000,
+                [false, false, false, false, false],
+                Protection::Nothing,
+                0xf_ffff,
+            ),
+        ];
+        for (word, [valid, referenced, dirty, on_swap, leaving], protection, number) in rows {
+            let entry = Pte::read(word)?;
+            assert_eq!(rt; entry.word(), word);
+            assert_eq!(rt; entry.valid(), valid);
+            assert_eq!(rt; entry.referenced(), referenced);
+            assert_eq!(rt; entry.dirty(), dirty);
+            assert_eq!(rt; entry.on_swap(), on_swap);
+            assert_eq!(rt; entry.leaving(), leaving);
+            assert_eq!(rt; entry.protection(), protection);
+            assert_eq!(rt; entry.number(), number);
+        }
+        Ok(())
+    }
+
+    #[test]
+    fn a_word_with_reserved_bits_is_refused_with_the_word(rt: HostRuntime) {
+        for word in [0x80, 0x100, 0x200, 0x400, 0x800, 0x18, 0xffff_ffff] {
+            assert_eq!(rt; Pte::read(word), Err(PteFault::Reserved(word)));
+        }
+    }
+
+    #[test]
+    fn made_and_changed_entries_have_these_words(rt: HostRuntime) {
+        let root = Pte::resident(64, Protection::ReadWrite).with_dirty(true);
+        let entry = Pte::resident(65, Protection::ReadWrite);
+        assert_eq!(rt; root.word(), 0x0004_0017);
+        assert_eq!(rt; entry.word(), 0x0004_1013);
+        assert_eq!(rt; entry.with_dirty(true).word(), 0x0004_1017);
+        assert_eq!(rt; entry.with_referenced(false).word(), 0x0004_1011);
+        assert_eq!(rt; entry.with_leaving(true).word(), 0x0004_1053);
+        assert_eq!(rt; Pte::swapped(0, Protection::ReadWrite).word(), 0x0000_0030);
+    }
+}
