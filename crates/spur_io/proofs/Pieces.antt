@@ -17,7 +17,7 @@ took bytes y z at n fits e =
 -- a piece that was filled, and the rest of where it stands
 pub filled : (left into : List ℕ) (most n : ℕ) → most ≤ length into → n ≡ min (length left) most → (take most left ++ drop (length left) (take most into)) ++ drop most into ≡ take n left ++ drop n into
 filled left into most n fits e = elim (cases_lt most (length left)) [
-    inl more ↦
+  | inl more ↦
       let n-is : n ≡ most = omega arith in
       let none : drop (length left) (take most into) ≡ [] = drop_all (length left) (take most into) (omega (arith, length-take most into)) in
       rw (none, append-nil, n-is) refl
@@ -28,7 +28,7 @@ filled left into most n fits e = elim (cases_lt most (length left)) [
       let some : drop (length left) (take most into) ≡ take rest (drop (length left) into) = ap (λ (k : ℕ). drop (length left) (take k into)) most-is ∙ drop-take (length left) rest into in
       let last : drop most into ≡ drop rest (drop (length left) into) = ap (λ (k : ℕ). drop k into) most-is ∙ sym (drop-drop rest (length left) into) in
       rw (some, last, take_all most left less, append_assoc, take-append-drop, n-is, take_all (length left) left (omega arith)) refl
-  ]
+]
 
 -- the same of the answer of a call
 pub filled_call : {E : Type 0} (result : Result ℕ E) (left into given : List ℕ) (most : ℕ) → most ≤ length into → result ≡ Ok (min (length left) most) → given ≡ take most left ++ drop (length left) (take most into) → IfOk result (λ n. given ++ drop most into ≡ take n left ++ drop n into)
@@ -39,13 +39,13 @@ filled_call {E} result left into given most fits count given-is =
 -- what a sink in memory keeps
 pub kept_is : (old bytes : List ℕ) (room n : ℕ) → length old ≤ room → n ≡ min (length bytes) (room - length old) → old ++ take n bytes ≡ take room (old ++ bytes)
 kept_is old bytes room n fits e = elim (cases_lt (room - length old) (length bytes)) [
-    inl more ↦
+  | inl more ↦
       let room-is : room ≡ length old + n = omega arith in
       sym (ap (λ (m : ℕ). take m (old ++ bytes)) room-is ∙ take-append-add old bytes n)
   | inr less ↦
       let n-is : n ≡ length bytes = omega arith in
       rw (take_all room (old ++ bytes) (omega (arith, length-append old bytes)), take_all n bytes (omega arith)) refl
-  ]
+]
 
 -- whether all still fits
 pub fits_is : (had room put n : ℕ) → had ≤ room → n ≡ min put (room - had) → nat_eq n put ≡ nat_le (had + put) room

@@ -17,3 +17,6 @@ pub use memory::{SinkMemory, SourceMemory};
 pub use stream::{Failed, Sink, Source};
 pub use sure::{SinkSure, SourceSure};
 pub use whole::{PutAll, ReadAll, put_all, read_all};
+
+#[cfg(test)]
+mod tests;

@@ -13,5 +13,5 @@ returns-clause-given c =
     let long : length (take most into) ≡ most = length-take-le most into fits in
     let left-is : rest ≡ c.args.self.now.left = ap (λ (s : Supply). s.left) c.self.view_is in
     filled_call c.take.result c.args.self.now.left into c.take.new.into most fits
-      (rw (← left-is) (c.take.ensures.count ∙ rw long refl))
-      (rw (← left-is) (c.take.ensures.given ∙ ap (λ (k : ℕ). take k rest ++ drop (length rest) (take most into)) long))
+    (rw (← left-is) (c.take.ensures.count ∙ rw long refl))
+    (rw (← left-is) (c.take.ensures.given ∙ ap (λ (k : ℕ). take k rest ++ drop (length rest) (take most into)) long))
