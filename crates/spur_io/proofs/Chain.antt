@@ -1,12 +1,7 @@
 -- One call of a source or a sink after another, and what one call moves.
-use Rattle.std.proofs.Common.{◌≡◌, ℕ, ◌-◌, List, [], ◌++◌, length, take, drop, Option, Some, None, refl, sym, ap, ◌∙◌, append_assoc}
-use Rattle.std.proofs.lemmas.List.{append-nil, take-append-drop, take_rest}
+use Rattle.std.proofs.Common.{◌≡◌, ℕ, ◌-◌, List, ◌++◌, length, take, drop, Option, Some, None, sym, ap, ◌∙◌, append_assoc}
+use Rattle.std.proofs.lemmas.List.{take-append-drop, take_rest}
 use Rattle.spur_io.specs.Told.{Loses, Gains}
-
--- nothing is lost
-pub Loses-none : (old : Option (List ℕ)) → Loses old old []
-Loses-none None = tt
-Loses-none (Some xs) = refl
 
 -- what is lost first, and then what is lost after it
 pub Loses-then : (a b c : Option (List ℕ)) (x y : List ℕ) → Loses a b x → Loses b c y → Loses a c (x ++ y)
@@ -16,11 +11,6 @@ Loses-then None (Some b) c x y p q = absurd p
 Loses-then (Some a) None c x y p q = absurd p
 Loses-then (Some a) (Some b) None x y p q = q
 Loses-then (Some a) (Some b) (Some c) x y p q = p ∙ ap (λ (w : List ℕ). x ++ w) q ∙ sym (append_assoc x y c)
-
--- nothing is gained
-pub Gains-none : (old : Option (List ℕ)) → Gains old old []
-Gains-none None = tt
-Gains-none (Some xs) = sym (append-nil xs)
 
 -- what is gained first, and then what is gained after it
 pub Gains-then : (a b c : Option (List ℕ)) (x y : List ℕ) → Gains a b x → Gains b c y → Gains a c (x ++ y)

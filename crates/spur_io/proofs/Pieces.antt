@@ -51,6 +51,7 @@ kept_is old bytes room n fits e = elim (cases_lt (room - length old) (length byt
 pub fits_is : (had room put n : ℕ) → had ≤ room → n ≡ min put (room - had) → nat_eq n put ≡ nat_le (had + put) room
 fits_is had room put n fits e = grind (arith, nat_tests)
 
+-- the bytes kept, whether all fit, and the room
 abbrev pub store_of : List ℕ → Bool → ℕ → Store
 store_of kept fits room = record { kept = kept; fits = fits; room = room }
 
