@@ -1,0 +1,56 @@
+-- Laws that tie refusals to the table of allowed answers, and histories to their pieces.
+use Rattle.std.specs.Prelude.{ℕ, ◌≡◌, ◌↔◌, ◌<◌, ◌^◌, ◌++◌, true, List, Option, None, Some}
+use Rattle.spur_flat.specs.declared.flat.Flat.{Flat}
+use Rattle.spur_flat.specs.declared.access.AccessKind.{AccessKind}
+use Rattle.spur_flat.specs.declared.access.AccessKind.TheVariants as access
+use Rattle.spur_flat.specs.declared.access.FaultKind.{FaultKind}
+use Rattle.spur_flat.specs.declared.entry.Entry.{Entry}
+use Rattle.spur_flat.specs.declared.entry.Entry.TheVariants.{Load, Store, Fault}
+use Rattle.spur_flat.specs.Access.{may, miss_of}
+use Rattle.spur_flat.specs.Table.{walk_of, data_word}
+use Rattle.spur_flat.specs.Validity.{IsValidFlat}
+use Rattle.spur_flat.specs.Refusal.{refusal_of}
+use Rattle.spur_flat.specs.History.{on, flat_after, IsLegal}
+
+-- an entry is allowed: an access that is done may be done, and a load read the word that stands in
+-- memory; a fault may answer its access
+abbrev pub IsAllowed : Flat → Entry → Type 0
+IsAllowed F (Load board at value) = (may (walk_of F at) access.Load at None ≡ true) × (value ≡ data_word F at)
+IsAllowed F (Store board at value) = may (walk_of F at) access.Store at None ≡ true
+IsAllowed F (Fault board kind access at) = may (walk_of F at) access at (Some kind) ≡ true
+
+-- an entry is refused exactly where it is not allowed
+abbrev pub RefusedUnlessAllowed : Type 0
+RefusedUnlessAllowed = (F : Flat) (entry : Entry) → (refusal_of F entry ≡ None) ↔ IsAllowed F entry
+
+-- the miss answer of an access is an allowed answer
+abbrev pub MissIsAllowed : Type 0
+MissIsAllowed = (F : Flat) (access : AccessKind) (g : ℕ) → may (walk_of F g) access g (miss_of (walk_of F g) access g) ≡ true
+
+-- so the entry that answers an access by its miss answer is never refused: the fault, the load of the
+-- word that stands in memory, and the store of any value
+pub record MissIsNotRefused (F : Flat) (board g : ℕ) : Type 0 where
+  pub fault : (access : AccessKind) (kind : FaultKind) → miss_of (walk_of F g) access g ≡ Some kind → refusal_of F (Fault board kind access g) ≡ None
+  pub load : miss_of (walk_of F g) access.Load g ≡ None → refusal_of F (Load board g (data_word F g)) ≡ None
+  pub store : (value : ℕ) → miss_of (walk_of F g) access.Store g ≡ None → refusal_of F (Store board g value) ≡ None
+
+abbrev pub MissIsNeverRefused : Type 0
+MissIsNeverRefused = (F : Flat) (board g : ℕ) → MissIsNotRefused F board g
+
+-- the address that an entry names
+abbrev pub address_of : Entry → ℕ
+address_of (Load board at value) = at
+address_of (Store board at value) = at
+address_of (Fault board kind access at) = at
+
+-- an allowed entry keeps a flat state valid
+abbrev pub StaysValid : Type 0
+StaysValid = (F : Flat) (entry : Entry) → IsValidFlat F → address_of entry < 2 ^ 38 → refusal_of F entry ≡ None → IsValidFlat (on F entry)
+
+-- the flat state after a history in two pieces
+abbrev pub AfterInPieces : Type 0
+AfterInPieces = (F : Flat) (first second : List Entry) → flat_after F (first ++ second) ≡ flat_after (flat_after F first) second
+
+-- such a history is legal where the first piece is, and the second from where the first leads
+abbrev pub LegalInPieces : Type 0
+LegalInPieces = (F : Flat) (first second : List Entry) → IsLegal F (first ++ second) ↔ (IsLegal F first × IsLegal (flat_after F first) second)
