@@ -1,6 +1,6 @@
 //! Flat memory with its page table.
 
-ghost use Rattle.std.specs.Prelude.{◌≡◌, ◌<◌, ◌≤◌, true, None, Some, IfOk, OnOk, OnErr, length, slice_index};
+ghost use Rattle.std.specs.Prelude.{◌≡◌, ◌^◌, ◌<◌, ◌≤◌, true, None, Some, IfOk, OnOk, OnErr, length, slice_index};
 ghost use Rattle.spur_flat.specs.Access.{may, miss_of};
 ghost use Rattle.spur_flat.specs.Table.{data_word, place_in, place_of, table_words, walk_of};
 ghost use Rattle.spur_flat.specs.Validity.{IsValidFlat};
@@ -179,7 +179,8 @@ impl Flat {
 
 /// Where the word of an address stands under the entry of its page.
 fn place_under(entry: Pte, at: GlobalAddr) -> usize
-    ensures { result ≡ place_in (Some entry) at }
+    ensures value { result ≡ place_in (Some entry) at }
+    ensures small { at < 2 ^ 38 }
 {
     entry.number() as usize * PAGE_WORDS + (at.number() >> 2) as usize % PAGE_WORDS
 }

@@ -1,0 +1,45 @@
+-- Histories in pieces, and what an allowed entry leaves.
+use Rattle.std.proofs.Common.{◌≡◌, ℕ, ◌^◌, ◌<◌, ◌≤◌, List, [], ◌∷◌, ◌++◌, refl, Option, None, Some}
+use Rattle.spur_flat.specs.declared.flat.Flat.{Flat}
+use Rattle.spur_flat.specs.declared.access.AccessKind.{AccessKind}
+use Rattle.spur_flat.specs.declared.access.AccessKind.TheVariants as access
+use Rattle.spur_flat.specs.declared.access.FaultKind.{FaultKind}
+use Rattle.spur_flat.specs.declared.entry.Entry.{Entry}
+use Rattle.spur_flat.specs.declared.entry.Entry.TheVariants.{Load, Store, Fault}
+use Rattle.spur_flat.specs.Access.{bar_of}
+use Rattle.spur_flat.specs.Table.{table_words, walk_of, place_in}
+use Rattle.spur_flat.specs.Validity.{IsValidFlat}
+use Rattle.spur_flat.specs.Refusal.{barred}
+use Rattle.spur_flat.specs.History.{on, flat_after, IsLegal}
+use Rattle.spur_flat.specs.Laws.{AfterInPieces, LegalInPieces, StaysValid}
+use Rattle.spur_flat.proofs.WalkFacts.{data_within, none_is_barred, unbarred_is_valid, valid-with_word}
+
+pub flat_after-append : AfterInPieces
+flat_after-append F [] second = refl
+flat_after-append F (entry ∷ rest) second = flat_after-append (on F entry) rest second
+
+legal_join : (F : Flat) (first second : List Entry) → IsLegal F first → IsLegal (flat_after F first) second → IsLegal F (first ++ second)
+legal_join F [] second before then = then
+legal_join F (entry ∷ rest) second before then = (before.0, legal_join (on F entry) rest second before.1 then)
+
+legal_split : (F : Flat) (first second : List Entry) → IsLegal F (first ++ second) → IsLegal F first × IsLegal (flat_after F first) second
+legal_split F [] second all = (tt, all)
+legal_split F (entry ∷ rest) second all = let pieces = legal_split (on F entry) rest second all.1 in ((all.0, pieces.0), pieces.1)
+
+pub legal-append : LegalInPieces
+legal-append F first second = (legal_split F first second, λ both. legal_join F first second both.0 both.1)
+
+not_barred : (fault : Option FaultKind) → barred fault ≡ None → fault ≡ None
+not_barred None h = refl
+not_barred (Some fault) h = cc
+
+-- the word of an access that no fault bars stands past the tables
+place_past : (F : Flat) (kind : AccessKind) (g : ℕ) (entry : Option ℕ) → IsValidFlat F → g < 2 ^ 38 → walk_of F g ≡ entry → bar_of entry kind g ≡ None → table_words F.tables ≤ place_in entry g
+place_past F kind g None ok small walked free = absurd (none_is_barred kind g free)
+place_past F kind g (Some e) ok small walked free = (data_within F g e ok small walked (unbarred_is_valid e kind g free)).0
+
+pub stays-valid : StaysValid
+stays-valid F (Load board at value) ok small allowed = ok
+stays-valid F (Store board at value) ok small allowed =
+    valid-with_word F (place_in (walk_of F at) at) value ok (place_past F access.Store at (walk_of F at) ok small refl (not_barred (bar_of (walk_of F at) access.Store at) allowed))
+stays-valid F (Fault board kind access at) ok small allowed = ok
