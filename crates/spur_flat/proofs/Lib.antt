@@ -1,2 +1,3 @@
+pub mod AccessFacts
 pub mod WalkFacts
 pub mod HistoryFacts
