@@ -1,12 +1,12 @@
 -- What a miss answer is good for.
-use Rattle.std.proofs.Common.{◌≡◌, ℕ, Option, true, refl, subst, rules}
+use Rattle.std.proofs.Common.{◌≡◌, ◌∙◌, None, Bool, true, false, not, ◌&&◌, if◌then◌else◌, sym, ap, ℕ, Option, true, refl, subst, rules}
 use Rattle.spur_flat.specs.declared.access.AccessKind.{AccessKind}
 use Rattle.spur_flat.specs.declared.access.AccessKind.TheVariants as access
 use Rattle.spur_flat.specs.declared.access.FaultKind.{FaultKind}
 use Rattle.spur_flat.specs.declared.entry.Entry.TheVariants.{Load, Store, Fault}
-use Rattle.spur_flat.specs.Access.{may, miss_of}
+use Rattle.spur_flat.specs.Access.{is_align, may, may_with, miss_of}
 use Rattle.spur_flat.specs.Table.{data_word, walk_of}
-use Rattle.spur_flat.specs.Laws.{MissIsAllowed, MissIsNeverRefused, RefusedUnlessAllowed}
+use Rattle.spur_flat.specs.Laws.{IsReady, ReadyIsDone, MissIsAllowed, MissIsNeverRefused, RefusedUnlessAllowed}
 
 pub refused-unless-allowed : RefusedUnlessAllowed
 refused-unless-allowed F entry = search rules
@@ -27,3 +27,13 @@ miss-is-never-refused F board g = record {
   load = λ is. (refused-unless-allowed F (Load board g (data_word F g))).1 (miss_may (walk_of F g) access.Load g _ is, refl);
   store = λ value is. (refused-unless-allowed F (Store board g value)).1 (miss_may (walk_of F g) access.Store g _ is);
 }
+
+-- the answers of a page that needs no fault
+only_done : (entry : ℕ) (access : AccessKind) (answer : Option FaultKind) → IsReady entry access → may_with entry access answer ≡ true → answer ≡ None
+only_done entry access answer ready allowed = search rules
+
+pub ready-is-done : ReadyIsDone
+ready-is-done F access g entry answer aligned walked ready allowed =
+    only_done entry access answer ready
+    (sym (ap (λ (b : Bool). if b then may_with entry access answer else is_align answer) aligned)
+    ∙ ap (λ (w : Option ℕ). may w access g answer) (sym walked) ∙ allowed)

@@ -1,5 +1,7 @@
 -- Histories in pieces, and what an allowed entry leaves.
 use Rattle.std.proofs.Common.{◌≡◌, ℕ, ◌^◌, ◌<◌, ◌≤◌, List, [], ◌∷◌, ◌++◌, refl, Option, None, Some}
+use Rattle.std.specs.Prelude.{All}
+use Rattle.std.proofs.lemmas.List.Elements.{filter-append, All-from_recursion, recursion_from_All}
 use Rattle.spur_flat.specs.declared.flat.Flat.{Flat}
 use Rattle.spur_flat.specs.declared.access.AccessKind.{AccessKind}
 use Rattle.spur_flat.specs.declared.access.AccessKind.TheVariants as access
@@ -10,8 +12,8 @@ use Rattle.spur_flat.specs.Access.{bar_of}
 use Rattle.spur_flat.specs.Table.{table_words, walk_of, place_in}
 use Rattle.spur_flat.specs.Validity.{IsValidFlat}
 use Rattle.spur_flat.specs.Refusal.{barred}
-use Rattle.spur_flat.specs.History.{on, flat_after, IsLegal}
-use Rattle.spur_flat.specs.Laws.{AfterInPieces, LegalInPieces, StaysValid}
+use Rattle.spur_flat.specs.History.{on, flat_after, is_own, IsLegal}
+use Rattle.spur_flat.specs.Laws.{address_of, AfterInPieces, LegalInPieces, LegalStaysValid, OwnInPieces, StaysValid}
 use Rattle.spur_flat.proofs.WalkFacts.{data_within, none_is_barred, unbarred_is_valid, valid-with_word}
 
 pub flat_after-append : AfterInPieces
@@ -43,3 +45,19 @@ stays-valid F (Load board at value) ok small allowed = ok
 stays-valid F (Store board at value) ok small allowed =
     valid-with_word F (place_in (walk_of F at) at) value ok (place_past F access.Store at (walk_of F at) ok small refl (not_barred (bar_of (walk_of F at) access.Store at) allowed))
 stays-valid F (Fault board kind access at) ok small allowed = ok
+
+pub own_entries-append : OwnInPieces
+own_entries-append first second board = filter-append (is_own board) first second
+
+-- a fact of each entry of a list, of its first and of the rest
+first_of_all : (P : Entry → Type 0) (entry : Entry) (rest : List Entry) → All P (entry ∷ rest) → P entry
+first_of_all P entry rest each = (recursion_from_All P (entry ∷ rest) each).0
+
+rest_of_all : (P : Entry → Type 0) (entry : Entry) (rest : List Entry) → All P (entry ∷ rest) → All P rest
+rest_of_all P entry rest each = All-from_recursion P rest (recursion_from_All P (entry ∷ rest) each).1
+
+pub legal-stays-valid : LegalStaysValid
+legal-stays-valid F [] ok small legal = ok
+legal-stays-valid F (entry ∷ rest) ok small legal =
+    let IsSmall : Entry → Type 0 = λ e. address_of e < 2 ^ 38 in
+    legal-stays-valid (on F entry) rest (stays-valid F entry ok (first_of_all IsSmall entry rest small) legal.0) (rest_of_all IsSmall entry rest small) legal.1

@@ -1,6 +1,6 @@
 //! Laws of the plain machine, each shown by a function that does nothing.
 
-ghost use Rattle.spur_flat.specs.Laws.{AfterInPieces, LegalInPieces, MissIsAllowed, MissIsNeverRefused, RefusedUnlessAllowed, StaysValid};
+ghost use Rattle.spur_flat.specs.Laws.{AfterInPieces, LegalInPieces, LegalStaysValid, MissIsAllowed, MissIsNeverRefused, OwnInPieces, ReadyIsDone, RefusedUnlessAllowed, StaysValid};
 
 /// An entry is refused exactly where the table of allowed answers does not allow it.
 pub fn refused_unless_allowed()
@@ -13,13 +13,22 @@ pub fn miss_is_allowed()
     ensures never_refused { MissIsNeverRefused }
 {}
 
-/// An allowed entry keeps a flat state valid.
+/// Where the page's entry is valid, referenced, not leaving, allows the access and is dirty for a write,
+/// an aligned access has no answer but that it is done.
+pub fn ready_is_done()
+    ensures { ReadyIsDone }
+{
+}
+
+/// An allowed entry keeps a flat state valid, and so does a legal history.
 pub fn stays_valid()
-    ensures { StaysValid }
+    ensures entry { StaysValid }
+    ensures history { LegalStaysValid }
 {}
 
-/// What a history in two pieces leads to, and where it is legal.
+/// What a history in two pieces leads to, where it is legal, and which entries in it are a board's own.
 pub fn history_in_pieces()
     ensures after { AfterInPieces }
     ensures legal { LegalInPieces }
+    ensures own { OwnInPieces }
 {}

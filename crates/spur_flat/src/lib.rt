@@ -11,8 +11,13 @@ mod flat;
 mod illegal;
 mod laws;
 
+#[cfg(test)]
+mod tests;
+
 pub use access::{AccessKind, FaultKind};
 pub use entry::Entry;
 pub use flat::Flat;
 pub use illegal::{Clause, Illegal};
-pub use laws::{history_in_pieces, miss_is_allowed, refused_unless_allowed, stays_valid};
+pub use laws::{
+    history_in_pieces, miss_is_allowed, ready_is_done, refused_unless_allowed, stays_valid,
+};
