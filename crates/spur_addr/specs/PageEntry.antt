@@ -14,7 +14,7 @@ field word at width = word / 2 ^ at % 2 ^ width
 abbrev pub is_valid : ℕ → Bool
 is_valid word = bit_at word 0 == 1
 
--- bit 1: the page was used since the bit was cleared
+-- bit 1: the page counts as used since the bit was last cleared
 abbrev pub is_referenced : ℕ → Bool
 is_referenced word = bit_at word 1 == 1
 

@@ -16,8 +16,8 @@ bitflag_items! {
         const VALID = 1;
         const REFERENCED = 2;
         const DIRTY = 4;
-        const READABLE = 8;
-        const WRITABLE = 16;
+        const READ_ONLY = 8;
+        const READ_WRITE = 16;
         const ON_SWAP = 32;
         const LEAVING = 64;
     }
@@ -29,7 +29,7 @@ impl Flags for EntryBits {
     ghost exact = { ⊤ };
 
     ghost table = { (codes "VALID", 1) ∷ (codes "REFERENCED", 2) ∷ (codes "DIRTY", 4)
-        ∷ (codes "READABLE", 8) ∷ (codes "WRITABLE", 16) ∷ (codes "ON_SWAP", 32)
+        ∷ (codes "READ_ONLY", 8) ∷ (codes "READ_WRITE", 16) ∷ (codes "ON_SWAP", 32)
         ∷ (codes "LEAVING", 64) ∷ [] };
 
     ghost set_of = { λ p. p.0 };
@@ -68,11 +68,11 @@ pub enum PteFault {
 
 /// A page-table entry.
 ///
-/// Contracts see its word, whose bits are, from the lowest: 0 valid (the page is in a frame),
-/// 1 referenced, 2 dirty, 3 and 4 the protection (0 nothing, 1 read, 2 read and write), 5 on swap,
-/// 6 leaving (the page is about to give up its frame), 7 to 11 zero, and 12 to 31 the number of the
-/// frame, or of the swap slot where the page is on swap. SPUR's entries have the first four; the
-/// places of the bits, and the two about swap, are this project's profile.
+/// Contracts see its word. From the lowest bit: 0 valid (the page is in a frame), 1 referenced,
+/// 2 dirty, 3 and 4 the protection (0 nothing, 1 read, 2 read and write), 5 on swap, 6 leaving (the
+/// page is about to give up its frame), 7 to 11 zero, 12 to 31 the number of the frame, or of the
+/// swap slot where the page is on swap and not valid. The layout is this project's profile, and no
+/// statement about SPUR.
 #[derive(Clone, Copy, Debug, PartialEq, Eq)]
 pub struct Pte {
     word: u32,
@@ -92,12 +92,16 @@ impl Model for Pte {
 }
 
 impl Pte {
-    /// The entry that a word of memory is, or `Reserved` with that word exactly where one of the
-    /// bits 7 to 11 is set or the protection is 3.
+    /// The entry that a word of memory is.
+    ///
+    /// The answer is `Reserved` with that word exactly where one of the bits 7 to 11 is set or the
+    /// protection is 3.
     pub fn read(word: u32) -> Result<Pte, PteFault>
         ensures { result ≡ read_of word }
     {
-        if word >> 7 & 31 == 0 && word >> 3 & 3 != 3 {
+        let reserved = (word >> 7) & 0x1f;
+        let protection = (word >> 3) & 3;
+        if reserved == 0 && protection != 3 {
             Ok(Pte { word })
         } else {
             Err(PteFault::Reserved(word))
@@ -120,7 +124,7 @@ impl Pte {
         EntryBits(self.word).contains(EntryBits::VALID)
     }
 
-    /// Whether the page was used since the bit was cleared.
+    /// Whether the page counts as used since the bit was last cleared.
     pub fn referenced(self) -> bool
         ensures { result ≡ is_referenced self }
     {
@@ -152,9 +156,10 @@ impl Pte {
     pub fn protection(self) -> Protection
         ensures { result ≡ protection_of self }
     {
-        match self.word >> 3 & 3 {
+        match (self.word >> 3) & 3 {
             0 => Protection::Nothing,
             1 => Protection::ReadOnly,
+            // 2, since the protection of an entry is never 3
             _ => Protection::ReadWrite,
         }
     }
@@ -167,7 +172,7 @@ impl Pte {
         self.word >> 12
     }
 
-    /// The entry with the referenced bit set or cleared, and all else as it is.
+    /// The entry with the referenced bit, bit 1, set or cleared, and all else as it is.
     pub fn with_referenced(self, to: bool) -> Pte
         ensures { result ≡ with_bit self 1 to }
     {
@@ -176,7 +181,7 @@ impl Pte {
         Pte { word: bits.0 }
     }
 
-    /// The entry with the dirty bit set or cleared, and all else as it is.
+    /// The entry with the dirty bit, bit 2, set or cleared, and all else as it is.
     pub fn with_dirty(self, to: bool) -> Pte
         ensures { result ≡ with_bit self 2 to }
     {
@@ -185,7 +190,7 @@ impl Pte {
         Pte { word: bits.0 }
     }
 
-    /// The entry with the leaving bit set or cleared, and all else as it is.
+    /// The entry with the leaving bit, bit 6, set or cleared, and all else as it is.
     pub fn with_leaving(self, to: bool) -> Pte
         ensures { result ≡ with_bit self 6 to }
     {
@@ -204,7 +209,7 @@ impl Pte {
             .union(EntryBits::REFERENCED)
             .union(protection_bits(protection));
         Pte {
-            word: frame << 12 | low.0,
+            word: (frame << 12) | low.0,
         }
     }
 
@@ -215,7 +220,7 @@ impl Pte {
     {
         let low = EntryBits::ON_SWAP.union(protection_bits(protection));
         Pte {
-            word: slot << 12 | low.0,
+            word: (slot << 12) | low.0,
         }
     }
 }
@@ -226,8 +231,80 @@ fn protection_bits(protection: Protection) -> EntryBits
 {
     match protection {
         Protection::Nothing => EntryBits(0),
-        Protection::ReadOnly => EntryBits::READABLE,
-        Protection::ReadWrite => EntryBits::WRITABLE,
+        Protection::ReadOnly => EntryBits::READ_ONLY,
+        Protection::ReadWrite => EntryBits::READ_WRITE,
     }
 }
 
+#[cfg(test)]
+mod tests {
+    use super::*;
+    use std::test::Fail;
+
+    #[test]
+    fn a_word_has_its_flags_its_protection_and_its_number(rt: HostRuntime) -> Result<(), Fail> {
+        let rows = [
+            (
+                0x0004_0017,
+                [true, true, true, false, false],
+                Protection::ReadWrite,
+                64,
+            ),
+            (
+                0x0000_0030,
+                [false, false, false, true, false],
+                Protection::ReadWrite,
+                0,
+            ),
+            (
+                0x0004_1013,
+                [true, true, false, false, false],
+                Protection::ReadWrite,
+                65,
+            ),
+            (
+                0x0004_104b,
+                [true, true, false, false, true],
+                Protection::ReadOnly,
+                65,
+            ),
+            (
+                0xffff_f000,
+                [false, false, false, false, false],
+                Protection::Nothing,
+                0xf_ffff,
+            ),
+        ];
+        for (word, [valid, referenced, dirty, on_swap, leaving], protection, number) in rows {
+            let entry = Pte::read(word)?;
+            assert_eq!(rt; entry.word(), word);
+            assert_eq!(rt; entry.valid(), valid);
+            assert_eq!(rt; entry.referenced(), referenced);
+            assert_eq!(rt; entry.dirty(), dirty);
+            assert_eq!(rt; entry.on_swap(), on_swap);
+            assert_eq!(rt; entry.leaving(), leaving);
+            assert_eq!(rt; entry.protection(), protection);
+            assert_eq!(rt; entry.number(), number);
+        }
+        Ok(())
+    }
+
+    #[test]
+    fn a_word_with_reserved_bits_is_refused_with_the_word(rt: HostRuntime) {
+        for word in [0x80, 0x100, 0x200, 0x400, 0x800, 0x18, 0xffff_ffff] {
+            assert_eq!(rt; Pte::read(word), Err(PteFault::Reserved(word)));
+        }
+    }
+
+    #[test]
+    fn made_and_changed_entries_have_these_words(rt: HostRuntime) {
+        let root = Pte::resident(64, Protection::ReadWrite).with_dirty(true);
+        let entry = Pte::resident(65, Protection::ReadWrite);
+        assert_eq!(rt; root.word(), 0x0004_0017);
+        assert_eq!(rt; entry.word(), 0x0004_1013);
+        assert_eq!(rt; entry.with_dirty(true).word(), 0x0004_1017);
+        assert_eq!(rt; entry.with_referenced(false).word(), 0x0004_1011);
+        assert_eq!(rt; entry.with_leaving(true).word(), 0x0004_1053);
+        assert_eq!(rt; Pte::swapped(0, Protection::ReadWrite).word(), 0x0000_0030);
+    }
+}
