@@ -1,10 +1,9 @@
 -- A flat state of one page, in which every word but four is zero. It is valid.
-use Rattle.std.proofs.Common.{◌≡◌, ◌≢◌, ℕ, ◌+◌, ◌*◌, ◌/◌, ◌%◌, ◌^◌, ◌<◌, ◌⊎◌, inl, inr, ⊎_elim, Bool, true, false, ◌||◌, if◌then◌else◌, Option, Some, None, refl, sym, ap, ◌∙◌, subst, arith, List, [], ◌∷◌, length, slice_index, slice_set, IsTrue}
+use Rattle.std.proofs.Common.{◌≡◌, ◌≢◌, ℕ, ◌+◌, ◌*◌, ◌/◌, ◌%◌, ◌^◌, ◌<◌, ⊎_elim, Bool, true, false, ◌||◌, if◌then◌else◌, Option, Some, None, refl, sym, ap, ◌∙◌, subst, arith, List, [], ◌∷◌, length, slice_index, slice_set, IsTrue}
 use Rattle.std.specs.Prelude.{replicate}
 use Rattle.std.proofs.lemmas.Bool.{cases_eq}
 use Rattle.std.proofs.lemmas.List.{get_or-replicate, get_or-set_same, get_or-set_other, length-replicate, length-set}
 use Rattle.spur_addr.specs.PageEntry.{is_valid, is_on_swap, is_readable, number_of}
-use Rattle.spur_flat.specs.declared.flat.Flat.{Flat}
 use Rattle.spur_flat.specs.Table.{entry_at}
 use Rattle.spur_flat.specs.Validity.{AreTables, HasEntry, IsTableFrame, IsValidFlat, StandsFor}
 
@@ -106,9 +105,9 @@ one-page-is-valid words swap entry ok long may = record {
   few_frames = omega arith;
   few_pages = omega arith;
   pages = record {
-      small = λ i below. let first : i ≡ 0 = omega arith in subst (λ (k : ℕ). slice_index (0 ∷ []) k < 255 * 2 ^ 18) (sym first) (omega arith);
-      differ = λ i j below_i below_j same. omega arith;
-    };
+    small = λ i below. let first : i ≡ 0 = omega arith in subst (λ (k : ℕ). slice_index (0 ∷ []) k < 255 * 2 ^ 18) (sym first) (omega arith);
+    differ = λ i j below_i below_j same. omega arith;
+  };
   tables = tables-of-one-page words entry ok may;
 }
 

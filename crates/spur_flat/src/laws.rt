@@ -17,8 +17,7 @@ pub fn miss_is_allowed()
 /// an aligned access has no answer but that it is done.
 pub fn ready_is_done()
     ensures { ReadyIsDone }
-{
-}
+{}
 
 /// An allowed entry keeps a flat state valid, and so does a legal history.
 pub fn stays_valid()

@@ -10,7 +10,6 @@ mod entry;
 mod flat;
 mod illegal;
 mod laws;
-
 #[cfg(test)]
 mod tests;
 
