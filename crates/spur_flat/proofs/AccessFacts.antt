@@ -1,5 +1,5 @@
 -- What a miss answer is good for.
-use Rattle.std.proofs.Common.{◌≡◌, ◌∙◌, None, Bool, true, if◌then◌else◌, sym, ap, ℕ, Option, true, refl, subst, rules}
+use Rattle.std.proofs.Common.{◌≡◌, ◌∙◌, None, Bool, true, if◌then◌else◌, sym, ap, ℕ, Option, refl, subst, rules}
 use Rattle.spur_flat.specs.declared.access.AccessKind.{AccessKind}
 use Rattle.spur_flat.specs.declared.access.AccessKind.TheVariants as access
 use Rattle.spur_flat.specs.declared.access.FaultKind.{FaultKind}

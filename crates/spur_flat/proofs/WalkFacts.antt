@@ -11,10 +11,10 @@ use Rattle.spur_flat.specs.declared.access.FaultKind.TheVariants as fault
 use Rattle.spur_flat.specs.Access.{may, bar_of}
 use Rattle.spur_flat.specs.Table.{table_words, entry_at, walk_of}
 use Rattle.spur_flat.specs.Validity.{AreTables, IsTableFrame, IsValidFlat}
-use Rattle.spur_flat.specs.History.{with_word}
+use Rattle.spur_flat.specs.Laws.{WalkFindsEntry}
 
 -- the walk finds the entry of the address's page
-pub walk_of-entry : (F : Flat) (g : ℕ) → walk_of F g ≡ entry_at F.words (g / 2 ^ 12)
+pub walk_of-entry : WalkFindsEntry
 walk_of-entry F g =
     ap (λ (r : ℕ). if is_valid (slice_index F.words r) then Some (slice_index F.words (number_of (slice_index F.words r) * 1024 + g / 2 ^ 12 % 1024)) else None) (sym (shr-shr g 12 10))
 
@@ -48,14 +48,6 @@ bar_valid false valid swapped rest h = cc
 
 pub unbarred_is_valid : (e : ℕ) (access : AccessKind) (g : ℕ) → bar_of (Some e) access g ≡ None → is_valid e ≡ true
 unbarred_is_valid e access g h = bar_valid (is_aligned g) (is_valid e) (is_on_swap e) _ h
-
-no_bar : (aligned : Bool) (rest : Option FaultKind) → (if not aligned then Some fault.Align else Some fault.Unmapped) ≡ None → ⊥
-no_bar true rest h = cc
-no_bar false rest h = cc
-
--- a page with no entry is always barred
-pub none_is_barred : (access : AccessKind) (g : ℕ) → bar_of None access g ≡ None → ⊥
-none_is_barred access g h = no_bar (is_aligned g) None h
 
 -- the entry of page p under a root entry
 abbrev under : List ℕ → ℕ → ℕ → Option ℕ
@@ -97,13 +89,13 @@ tables-same words new pages tables frames ok small same =
     }
 
 -- a write past the tables keeps a flat state valid
-pub valid-with_word : (F : Flat) (place value : ℕ) → IsValidFlat F → table_words F.tables ≤ place → IsValidFlat (with_word F place value)
-valid-with_word F place value ok past = record {
-  words = length-set F.words place value ∙ ok.words;
+pub valid-with_word : (F : Flat) (words : List ℕ) (place value : ℕ) → IsValidFlat F → table_words F.tables ≤ place → words ≡ slice_set F.words place value → IsValidFlat (record F { words = words })
+valid-with_word F words place value ok past is = record {
+  words = ap (λ (ws : List ℕ). length ws) is ∙ length-set F.words place value ∙ ok.words;
   swap = ok.swap;
   few_frames = ok.few_frames;
   few_pages = ok.few_pages;
   pages = ok.pages;
-  tables = tables-same F.words (slice_set F.words place value) F.pages F.tables F.frames ok.tables ok.pages.small
-      (λ k below. get_or-set_other F.words place k value 0 (λ (h : k ≡ place). omega arith));
+  tables = tables-same F.words words F.pages F.tables F.frames ok.tables ok.pages.small
+      (λ k below. ap (λ (ws : List ℕ). slice_index ws k) is ∙ get_or-set_other F.words place k value 0 (λ (h : k ≡ place). omega arith));
 }

@@ -6,20 +6,17 @@ use Rattle.spur_flat.specs.declared.access.AccessKind.TheVariants as access
 use Rattle.spur_flat.specs.declared.access.FaultKind.{FaultKind}
 use Rattle.spur_flat.specs.declared.entry.Entry.{Entry}
 use Rattle.spur_flat.specs.declared.entry.Entry.TheVariants.{Load, Store, Fault}
-use Rattle.spur_addr.specs.Address.{is_aligned}
+use Rattle.spur_addr.specs.Address.{is_aligned, page_of}
 use Rattle.spur_addr.specs.PageEntry.{is_valid, is_referenced, is_dirty, is_leaving}
 use Rattle.spur_flat.specs.Access.{allows, is_write, may, miss_of}
-use Rattle.spur_flat.specs.Table.{walk_of, data_word}
+use Rattle.spur_flat.specs.Table.{walk_of, data_word, entry_at}
 use Rattle.spur_flat.specs.Validity.{IsValidFlat}
 use Rattle.spur_flat.specs.Refusal.{refusal_of}
-use Rattle.spur_flat.specs.History.{on, flat_after, IsLegal, own_entries}
+use Rattle.spur_flat.specs.History.{on, flat_after, IsAllowed, IsLegal, own_entries}
 
--- an entry is allowed: an access that is done may be done, and a load read the word that stands in
--- memory; a fault may answer its access
-abbrev pub IsAllowed : Flat → Entry → Type 0
-IsAllowed F (Load board at value) = (may (walk_of F at) access.Load at None ≡ true) × (value ≡ data_word F at)
-IsAllowed F (Store board at value) = may (walk_of F at) access.Store at None ≡ true
-IsAllowed F (Fault board kind access at) = may (walk_of F at) access at (Some kind) ≡ true
+-- the walk to an address finds the entry of its page
+abbrev pub WalkFindsEntry : Type 0
+WalkFindsEntry = (F : Flat) (g : ℕ) → walk_of F g ≡ entry_at F.words (page_of g)
 
 -- an entry is refused exactly where it is not allowed
 abbrev pub RefusedUnlessAllowed : Type 0
@@ -61,7 +58,7 @@ address_of (Fault board kind access at) = at
 
 -- an allowed entry keeps a flat state valid
 abbrev pub StaysValid : Type 0
-StaysValid = (F : Flat) (entry : Entry) → IsValidFlat F → address_of entry < 2 ^ 38 → refusal_of F entry ≡ None → IsValidFlat (on F entry)
+StaysValid = (F : Flat) (entry : Entry) → IsValidFlat F → address_of entry < 2 ^ 38 → IsAllowed F entry → IsValidFlat (on F entry)
 
 -- and so does a legal history
 abbrev pub LegalStaysValid : Type 0

@@ -46,21 +46,25 @@ impl Flat {
         requires { IsValidFlat self.now }
         ensures { result ≡ walk_of self.now at }
     {
-        let root = self.entry(at.number() as usize >> 22)?;
+        let root = self.entry(at.number() as usize >> 22);
         if root.valid() {
-            self.entry(root.number() as usize * PAGE_WORDS + at.page() as usize % PAGE_WORDS)
+            let place = root.number() as usize * PAGE_WORDS + at.page() as usize % PAGE_WORDS;
+            Some(self.entry(place))
         } else {
             None
         }
     }
 
-    /// The entry that a word of the root or of the page table is. There is always one.
-    fn entry(&self, place: usize) -> Option<Pte>
+    /// The entry that a word of the root or of the page table is: each of them is readable.
+    fn entry(&self, place: usize) -> Pte
         requires valid { IsValidFlat self.now }
         requires in_tables { place < table_words self.now.tables }
-        ensures { result ≡ Some (slice_index self.now.words place) }
+        ensures { result ≡ slice_index self.now.words place }
     {
-        Pte::read(self.words.as_slice()[place]).ok()
+        let Ok(entry) = Pte::read(self.words.as_slice()[place]) else {
+            unreachable!();
+        };
+        entry
     }
 
     /// The miss answer of an access: the first fault that applies to it, in the order of `FaultKind`,

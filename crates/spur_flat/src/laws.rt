@@ -1,6 +1,11 @@
 //! Laws of the plain machine, each shown by a function that does nothing.
 
-ghost use Rattle.spur_flat.specs.Laws.{AfterInPieces, LegalInPieces, LegalStaysValid, MissIsAllowed, MissIsNeverRefused, OwnInPieces, ReadyIsDone, RefusedUnlessAllowed, StaysValid};
+ghost use Rattle.spur_flat.specs.Laws.{AfterInPieces, LegalInPieces, LegalStaysValid, MissIsAllowed, MissIsNeverRefused, OwnInPieces, ReadyIsDone, RefusedUnlessAllowed, StaysValid, WalkFindsEntry};
+
+/// The walk to an address finds the entry of its page, of which validity speaks by the page's number.
+pub fn walk_finds_entry()
+    ensures { WalkFindsEntry }
+{}
 
 /// An entry is refused exactly where the table of allowed answers does not allow it.
 pub fn refused_unless_allowed()

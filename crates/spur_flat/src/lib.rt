@@ -19,4 +19,5 @@ pub use flat::Flat;
 pub use illegal::{Clause, Illegal};
 pub use laws::{
     history_in_pieces, miss_is_allowed, ready_is_done, refused_unless_allowed, stays_valid,
+    walk_finds_entry,
 };
