@@ -1,0 +1,39 @@
+-- What a miss answer is good for.
+use Rattle.std.proofs.Common.{◌≡◌, ◌∙◌, None, Bool, true, if◌then◌else◌, sym, ap, ℕ, Option, refl, subst, rules}
+use Rattle.spur_flat.specs.declared.access.AccessKind.{AccessKind}
+use Rattle.spur_flat.specs.declared.access.AccessKind.TheVariants as access
+use Rattle.spur_flat.specs.declared.access.FaultKind.{FaultKind}
+use Rattle.spur_flat.specs.declared.entry.Entry.TheVariants.{Load, Store, Fault}
+use Rattle.spur_flat.specs.Access.{is_align, may, may_with, miss_of}
+use Rattle.spur_flat.specs.Table.{data_word, walk_of}
+use Rattle.spur_flat.specs.Laws.{IsReady, ReadyIsDone, MissIsAllowed, MissIsNeverRefused, RefusedUnlessAllowed}
+
+pub refused-unless-allowed : RefusedUnlessAllowed
+refused-unless-allowed F entry = search rules
+
+pub may-miss_of : (entry : Option ℕ) (access : AccessKind) (g : ℕ) → may entry access g (miss_of entry access g) ≡ true
+may-miss_of entry access g = search rules
+
+pub miss-is-allowed : MissIsAllowed
+miss-is-allowed F access g = may-miss_of (walk_of F g) access g
+
+-- an answer that is the miss answer is allowed
+pub miss_may : (entry : Option ℕ) (access : AccessKind) (g : ℕ) (answer : Option FaultKind) → miss_of entry access g ≡ answer → may entry access g answer ≡ true
+miss_may entry access g answer is = subst (λ (a : Option FaultKind). may entry access g a ≡ true) is (may-miss_of entry access g)
+
+pub miss-is-never-refused : MissIsNeverRefused
+miss-is-never-refused F board g = record {
+  fault = λ access kind is. (refused-unless-allowed F (Fault board kind access g)).1 (miss_may (walk_of F g) access g _ is);
+  load = λ is. (refused-unless-allowed F (Load board g (data_word F g))).1 (miss_may (walk_of F g) access.Load g _ is, refl);
+  store = λ value is. (refused-unless-allowed F (Store board g value)).1 (miss_may (walk_of F g) access.Store g _ is);
+}
+
+-- the answers of a page that needs no fault
+only_done : (entry : ℕ) (access : AccessKind) (answer : Option FaultKind) → IsReady entry access → may_with entry access answer ≡ true → answer ≡ None
+only_done entry access answer ready allowed = search rules
+
+pub ready-is-done : ReadyIsDone
+ready-is-done F access g entry answer aligned walked ready allowed =
+    only_done entry access answer ready
+    (sym (ap (λ (b : Bool). if b then may_with entry access answer else is_align answer) aligned)
+    ∙ ap (λ (w : Option ℕ). may w access g answer) (sym walked) ∙ allowed)

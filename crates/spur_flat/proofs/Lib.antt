@@ -1,0 +1,4 @@
+pub mod AccessFacts
+pub mod WalkFacts
+pub mod HistoryFacts
+pub mod OnePage

@@ -1,0 +1,30 @@
+//! The entries of a history.
+
+use crate::access::{AccessKind, FaultKind};
+use spur_addr::GlobalAddr;
+
+/// One event of a history: an access of a board that was done, or a fault that answered one.
+///
+/// `board` is the board's number from 0, and `at` the global address that the access names.
+#[derive(Clone, Copy, Debug, PartialEq, Eq)]
+pub enum Entry {
+    /// A load that read `value`.
+    Load {
+        board: u32,
+        at: GlobalAddr,
+        value: u32,
+    },
+    /// A store that wrote `value`.
+    Store {
+        board: u32,
+        at: GlobalAddr,
+        value: u32,
+    },
+    /// An access of the kind `access` that was answered by the fault `kind`.
+    Fault {
+        board: u32,
+        kind: FaultKind,
+        access: AccessKind,
+        at: GlobalAddr,
+    },
+}

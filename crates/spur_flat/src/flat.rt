@@ -1,0 +1,190 @@
+//! Flat memory with its page table.
+
+ghost use Rattle.std.specs.Prelude.{◌≡◌, ◌^◌, ◌<◌, ◌≤◌, true, None, Some, IfOk, OnOk, OnErr, length, slice_index};
+ghost use Rattle.spur_flat.specs.Access.{may, miss_of};
+ghost use Rattle.spur_flat.specs.Table.{data_word, place_in, place_of, table_words, walk_of};
+ghost use Rattle.spur_flat.specs.Validity.{IsValidFlat};
+ghost use Rattle.spur_flat.specs.Refusal.{done_refusal, fault_refusal, load_refusal, place_or, refusal_of, result_of};
+ghost use Rattle.spur_flat.specs.History.{on, with_word};
+
+use crate::access::{AccessKind, FaultKind, admit, may_fault, miss};
+use crate::entry::Entry;
+use crate::illegal::{Clause, Illegal};
+use spur_addr::{GlobalAddr, Pte};
+use spur_list::Items;
+
+/// The words of a page, and so of a frame, of a swap slot, and the entries of a page of the table.
+const PAGE_WORDS: usize = 1024;
+
+/// The plain machine's state: memory, swap, and which pages are declared.
+///
+/// Memory is in frames of 1024 words. Frames 0 to 63 hold the root table, the next `tables` frames
+/// the pages of the page table, and the next `frames` frames the data. That the root stands there,
+/// and that the pages of the table never move, is this project's profile.
+#[derive(Debug, Drop)]
+pub struct Flat {
+    /// The words of all frames, in the order of their places.
+    pub words: Items<u32>,
+    /// The words of all swap slots, 1024 a slot.
+    pub swap: Items<u32>,
+    /// The numbers of the declared pages, each below `255 * 2^18`. The slot of a page is its position
+    /// here.
+    pub pages: Items<u32>,
+    /// How many frames hold pages of the page table.
+    pub tables: u32,
+    /// How many frames hold data.
+    pub frames: u32,
+}
+
+impl Flat {
+    /// The page-table entry of the page that `at` is in; `None` exactly where its root entry is not
+    /// valid.
+    ///
+    /// As in SPUR there are two levels: the root entry names the frame of the table's page, and the
+    /// entry stands there.
+    pub fn walk(&self, at: GlobalAddr) -> Option<Pte>
+        requires { IsValidFlat self.now }
+        ensures { result ≡ walk_of self.now at }
+    {
+        let root = self.entry(at.number() as usize >> 22);
+        if root.valid() {
+            let place = root.number() as usize * PAGE_WORDS + at.page() as usize % PAGE_WORDS;
+            Some(self.entry(place))
+        } else {
+            None
+        }
+    }
+
+    /// The entry that a word of the root or of the page table is: each of them is readable.
+    fn entry(&self, place: usize) -> Pte
+        requires valid { IsValidFlat self.now }
+        requires in_tables { place < table_words self.now.tables }
+        ensures { result ≡ slice_index self.now.words place }
+    {
+        let Ok(entry) = Pte::read(self.words.as_slice()[place]) else {
+            unreachable!();
+        };
+        entry
+    }
+
+    /// The miss answer of an access: the first fault that applies to it, in the order of `FaultKind`,
+    /// or `None` where none does and the access may be done.
+    ///
+    /// It is always an allowed answer of the access. The order is this project's profile.
+    pub fn miss(&self, access: AccessKind, at: GlobalAddr) -> Option<FaultKind>
+        requires { IsValidFlat self.now }
+        ensures { result ≡ miss_of (walk_of self.now at) access at }
+    {
+        miss(self.walk(at), access, at)
+    }
+
+    /// The word at `at`, where a load there may be done.
+    pub fn word(&self, at: GlobalAddr) -> u32
+        requires valid { IsValidFlat self.now }
+        requires allowed { may (walk_of self.now at) AccessKind.Load at None ≡ true }
+        ensures { result ≡ data_word self.now at }
+    {
+        let Some(entry) = self.walk(at) else {
+            unreachable!();
+        };
+        self.words.as_slice()[place_under(entry, at)]
+    }
+
+    /// Takes an entry: makes the change that it makes, or says why it is refused and changes nothing.
+    ///
+    /// A load or a store is refused by the rule `Fault` where one of the faults Align, Unmapped,
+    /// Missing, Protection and Dirty applies to it: WANTED is the first of these, FOUND is 0. A load
+    /// is then refused by the rule `Answer` where it read another word than the one that stands in
+    /// memory: WANTED is that word, FOUND the entry's. A fault is refused by the rule `Fault` where
+    /// the access may not have it: WANTED is the miss answer (0 where there is none), FOUND the
+    /// entry's fault.
+    pub fn apply(&mut self, entry: &Entry) -> Result<(), Illegal>
+        requires { IsValidFlat self.old }
+        ensures exact { result ≡ result_of (refusal_of self.old entry.now) }
+        ensures ok { OnOk result (self.new ≡ on self.old entry.now) }
+        ensures err { OnErr result (self.new ≡ self.old) }
+        ensures valid { IsValidFlat self.new }
+    {
+        match entry {
+            Entry::Load { at, value, .. } => self.load(*at, *value),
+            Entry::Store { at, value, .. } => self.store(*at, *value),
+            Entry::Fault {
+                kind,
+                access,
+                at,
+                ..
+            } => self.fault(*kind, *access, *at),
+        }
+    }
+
+    /// Takes a load.
+    fn load(&self, at: GlobalAddr, value: u32) -> Result<(), Illegal>
+        requires { IsValidFlat self.now }
+        ensures { result ≡ result_of (load_refusal self.now at value) }
+    {
+        let word = self.words.as_slice()[self.place(AccessKind::Load, at)?];
+        if word == value {
+            Ok(())
+        } else {
+            Err(Illegal {
+                clause: Clause::Answer,
+                wanted: word as u64,
+                found: value as u64,
+            })
+        }
+    }
+
+    /// Takes a store.
+    fn store(&mut self, at: GlobalAddr, value: u32) -> Result<(), Illegal>
+        requires { IsValidFlat self.old }
+        ensures exact { result ≡ result_of (done_refusal self.old AccessKind.Store at) }
+        ensures ok { OnOk result (self.new ≡ with_word self.old (place_of self.old at) value) }
+        ensures err { OnErr result (self.new ≡ self.old) }
+        ensures valid { IsValidFlat self.new }
+    {
+        let place = self.place(AccessKind::Store, at)?;
+        self.words.set(place, value);
+        Ok(())
+    }
+
+    /// Takes a fault of an access.
+    fn fault(&self, kind: FaultKind, access: AccessKind, at: GlobalAddr) -> Result<(), Illegal>
+        requires { IsValidFlat self.now }
+        ensures { result ≡ result_of (fault_refusal (walk_of self.now at) access at kind) }
+    {
+        if may_fault(self.walk(at), access, at, kind) {
+            Ok(())
+        } else {
+            Err(Illegal {
+                clause: Clause::Fault,
+                wanted: self.miss(access, at).map_or(0, FaultKind::number),
+                found: kind.number(),
+            })
+        }
+    }
+
+    /// Where the word of an access stands, or why the access may not be done.
+    fn place(&self, access: AccessKind, at: GlobalAddr) -> Result<usize, Illegal>
+        requires { IsValidFlat self.now }
+        ensures exact { result ≡ place_or (done_refusal self.now access at) (place_of self.now at) }
+        ensures data { IfOk result (λ place. table_words self.now.tables ≤ place) }
+        ensures within { IfOk result (λ place. place < length self.now.words) }
+    {
+        match admit(self.walk(at), access, at) {
+            Ok(entry) => Ok(place_under(entry, at)),
+            Err(fault) => Err(Illegal {
+                clause: Clause::Fault,
+                wanted: fault.number(),
+                found: 0,
+            }),
+        }
+    }
+}
+
+/// Where the word of an address stands under the entry of its page.
+fn place_under(entry: Pte, at: GlobalAddr) -> usize
+    ensures value { result ≡ place_in (Some entry) at }
+    ensures small { at < 2 ^ 38 }
+{
+    entry.number() as usize * PAGE_WORDS + (at.number() >> 2) as usize % PAGE_WORDS
+}

@@ -1,0 +1,38 @@
+//! Laws of the plain machine, each shown by a function that does nothing.
+
+ghost use Rattle.spur_flat.specs.Laws.{AfterInPieces, LegalInPieces, LegalStaysValid, MissIsAllowed, MissIsNeverRefused, OwnInPieces, ReadyIsDone, RefusedUnlessAllowed, StaysValid, WalkFindsEntry};
+
+/// The walk to an address finds the entry of its page, of which validity speaks by the page's number.
+pub fn walk_finds_entry()
+    ensures { WalkFindsEntry }
+{}
+
+/// An entry is refused exactly where the table of allowed answers does not allow it.
+pub fn refused_unless_allowed()
+    ensures { RefusedUnlessAllowed }
+{}
+
+/// The miss answer of an access is always an allowed answer, and the entry of it is never refused.
+pub fn miss_is_allowed()
+    ensures allowed { MissIsAllowed }
+    ensures never_refused { MissIsNeverRefused }
+{}
+
+/// Where the page's entry is valid, referenced, not leaving, allows the access and is dirty for a write,
+/// an aligned access has no answer but that it is done.
+pub fn ready_is_done()
+    ensures { ReadyIsDone }
+{}
+
+/// An allowed entry keeps a flat state valid, and so does a legal history.
+pub fn stays_valid()
+    ensures entry { StaysValid }
+    ensures history { LegalStaysValid }
+{}
+
+/// What a history in two pieces leads to, where it is legal, and which entries in it are a board's own.
+pub fn history_in_pieces()
+    ensures after { AfterInPieces }
+    ensures legal { LegalInPieces }
+    ensures own { OwnInPieces }
+{}
