@@ -6,7 +6,7 @@ ghost use Rattle.spur_flat.specs.Refusal.{fault_number};
 
 use spur_addr::{GlobalAddr, Protection, Pte};
 
-/// What a program does with a word of memory.
+/// What a program does with a word of 4 bytes of memory.
 #[derive(Clone, Copy, Debug, PartialEq, Eq)]
 pub enum AccessKind {
     /// Reads the word.
@@ -24,7 +24,9 @@ impl AccessKind {
     }
 }
 
-/// Why an access is not done. The order is that in which they are looked for: this project's profile.
+/// Why an access is not done.
+///
+/// These seven, and the order in which they stand here and are looked for, are this project's profile.
 #[derive(Clone, Copy, Debug, PartialEq, Eq)]
 pub enum FaultKind {
     /// The address is no multiple of 4.

@@ -5,7 +5,8 @@ use spur_addr::GlobalAddr;
 
 /// One event of a history: an access of a board that was done, or a fault that answered one.
 ///
-/// `board` is the board's number from 0, and `at` the global address that the access names.
+/// `board` is the board's number from 0, and `at` the global address of the byte that the access
+/// names; its word is loaded or stored. The entries are this project's own.
 #[derive(Clone, Copy, Debug, PartialEq, Eq)]
 pub enum Entry {
     /// A load that read `value`.

@@ -78,7 +78,9 @@ impl Flat {
         miss(self.walk(at), access, at)
     }
 
-    /// The word at `at`, where a load there may be done.
+    /// The word at `at`, as a load there reads it.
+    ///
+    /// A load has to be an access that may be done there, as it is where `miss` answers `None`.
     pub fn word(&self, at: GlobalAddr) -> u32
         requires valid { IsValidFlat self.now }
         requires allowed { may (walk_of self.now at) AccessKind.Load at None ≡ true }
