@@ -1,0 +1,15 @@
+pub mod WordLemmas
+pub mod NumberLemmas
+pub mod FieldLemmas
+pub mod OperandLemmas
+pub mod StatementLemmas
+pub mod LineLaw
+pub mod TextLemmas
+pub mod PageLemmas
+pub mod StepLemmas
+pub mod DraftLemmas
+pub mod SectionLemmas
+pub mod SaidLemmas
+pub mod FirstFacts
+pub mod LineFacts
+pub mod SaidFacts

@@ -1,0 +1,10 @@
+pub mod Spelling
+pub mod Units
+pub mod Says
+pub mod Number
+pub mod Fields
+pub mod Context
+pub mod Line
+pub mod Pages
+pub mod Text
+pub mod Laws

@@ -1,0 +1,17 @@
+pub mod Statuses
+pub mod Words
+pub mod Texts
+pub mod Meaning
+pub mod Steps
+pub mod Plain
+pub mod PlainCpus
+pub mod After
+pub mod ZeroRegister
+pub mod Openable
+pub mod Opening
+pub mod OpeningParts
+pub mod Resident
+pub mod Headline
+pub mod Boards
+pub mod Machines
+pub mod Answer

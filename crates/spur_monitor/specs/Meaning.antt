@@ -1,0 +1,38 @@
+-- What a processor means: a state of its own, what is read of that state, what it wants, and the states after a local
+-- instruction and after an answer.
+use Rattle.std.specs.Prelude.{◌≡◌, ℕ, Bool, true, false, List}
+use Rattle.spur_flat.specs.declared.access.FaultKind.{FaultKind}
+use Rattle.spur_flat.specs.declared.access.FaultKind.TheVariants.{Align, Unmapped, Missing, Leaving, Protection, Reference, Dirty}
+use Rattle.spur_monitor.specs.declared.cpu.Want.{Want}
+use Rattle.spur_monitor.specs.declared.cpu.Want.TheVariants.{Local, Access, Ended}
+use Rattle.spur_monitor.specs.declared.cpu.Answer.{Answer}
+use Rattle.spur_monitor.specs.declared.cpu.Answer.TheVariants.{Done, Faulted}
+
+pub record Meaning (S : Type 0) : Type 0 where
+  pub wants : S → Want
+  pub local : S → S
+  pub answer : S → Answer → S
+  pub register : S → ℕ → ℕ
+  pub place : S → ℕ
+  pub shown : S → List ℕ
+
+-- a fault that ends its board; the others leave the instruction standing
+abbrev pub is_ending : FaultKind → Bool
+is_ending Align = true
+is_ending Unmapped = true
+is_ending Missing = false
+is_ending Leaving = false
+is_ending Protection = true
+is_ending Reference = false
+is_ending Dirty = false
+
+-- a processor wants an access
+abbrev pub IsAccess : Want → Type 0
+IsAccess Local = ⊥
+IsAccess (Access kind va value) = Unit {0}
+IsAccess Ended = ⊥
+
+-- an access may be answered so: of the faults only those that end the board are told to a processor
+abbrev pub MayAnswer : Answer → Type 0
+MayAnswer (Done value) = Unit {0}
+MayAnswer (Faulted kind) = is_ending kind ≡ true

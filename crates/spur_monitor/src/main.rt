@@ -1,0 +1,89 @@
+//! The program `spur`: it reads an assembly text from standard input, runs its board, and writes the board's outcome and
+//! registers to standard output.
+//!
+//! `main` only joins the top call to the process: its words, its standard streams and its exit status.
+#![tactic(auto)]
+
+mod board;
+mod cpu;
+mod machine;
+mod opening;
+mod plain;
+mod report;
+mod step;
+#[cfg(test)]
+mod tests;
+mod text;
+mod top;
+mod words;
+
+use report::Status;
+use spur_io::{Sink, SinkStd, SourceStd, put_all};
+use std::alloc::{Alloc, AllocError, Global};
+use std::env::Env;
+use std::process::ExitCode;
+use std::{env, io};
+use top::spur_alone;
+
+/// What `--help` writes.
+const HELP: &[u8] =
+    b"usage: spur run < TEXT\n\nReads an assembly text from standard input, runs its board on flat memory with a page table, and writes\nthe board's outcome and registers. spur --help and spur --version tell of the program.\n\nexit status: 0 the board halted, 1 it ended otherwise, 2 words refused, 3 input refused, 4 the input\ncannot be read, 5 the output cannot be written, 9 out of memory\n";
+
+/// What `--version` writes.
+const VERSION: &[u8] = b"spur 0.1.0\n";
+
+/// A word that is of no table. It stands for words that are no text.
+const NO_WORD: &str = "?";
+
+/// The words after the program's name. Where they are no text, one word that is refused stands for them.
+fn words_of<R: Env + Alloc<A = Global>>(rt: &R) -> Result<Vec<String>, AllocError> {
+    match env::args(rt) {
+        Ok(mut args) => {
+            let _name = args.next();
+            args.collect(rt.alloc())
+        }
+        Err(error) => {
+            if error.kind() == io::ErrorKind::OutOfMemory {
+                return Err(AllocError);
+            }
+            let mut words = Vec::new(rt.alloc());
+            words.push(String::from_str(rt.alloc(), NO_WORD)?)?;
+            Ok(words)
+        }
+    }
+}
+
+/// What a lone word asks to be told of the program, if it asks for that.
+fn told_of<'a>(words: &[String]) -> Option<&'a [u8]> {
+    match words {
+        [word] => match word.as_str() {
+            "--help" => Some(HELP),
+            "--version" => Some(VERSION),
+            _ => None,
+        },
+        _ => None,
+    }
+}
+
+/// Puts a text about the program.
+fn tell<K: Sink>(sink: &mut K, text: &[u8]) -> Status {
+    match put_all(sink, text) {
+        Ok(()) => Status::Fine,
+        Err(_) => Status::WriteFault,
+    }
+}
+
+fn main(rt: HostRuntime) -> ExitCode {
+    let Ok(words) = words_of(&rt) else {
+        return ExitCode::from(Status::NoMemory.number());
+    };
+    let mut sink = SinkStd::new(io::writer(&rt));
+    let status = match told_of(&words) {
+        Some(text) => tell(&mut sink, text),
+        None => {
+            let mut source = SourceStd::new(rt.reader());
+            spur_alone(rt.alloc(), &words, &mut source, &mut sink).status
+        }
+    };
+    ExitCode::from(status.number())
+}

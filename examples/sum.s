@@ -1,0 +1,7 @@
+.page 0 0 rw
+.word 0 64 41
+.board
+ld r1, 64(r0)
+addi r1, r1, 1
+st r1, 64(r0)
+halt
