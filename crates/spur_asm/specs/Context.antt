@@ -1,5 +1,5 @@
 -- Which statement a line is, by the name that it begins with, and where it may stand.
-use Rattle.std.specs.Prelude.{ℕ, ◌+◌, ◌≤◌, ◌&&◌, ◌==◌, nat_lt, if◌then◌else◌, List, Option, Some, None, codes}
+use Rattle.std.specs.Prelude.{ℕ, ◌+◌, ◌&&◌, ◌==◌, nat_lt, if◌then◌else◌, List, Option, Some, None, codes}
 use Rattle.std.specs.Option.{option_map}
 use Rattle.std.specs.Str.{bytes_eq}
 use Rattle.spur_asm.specs.Fields.{word_at}
@@ -46,13 +46,6 @@ context_after c (Some (sorts.Code o)) = record c { codes = c.codes + 1 }
 -- the context of the line behind this one
 abbrev pub next_of : Context → List ℕ → Context
 next_of c line = context_after c (sort_of line)
-
--- each count is at most k
-pub record IsWithin (k : ℕ) (c : Context) : Type 0 where
-  pub pages : c.pages ≤ k
-  pub words : c.words ≤ k
-  pub boards : c.boards ≤ k
-  pub codes : c.codes ≤ k
 
 -- the fault of one more statement where there may be this many
 abbrev pub limit_fault : ℕ → ℕ → Option Kind

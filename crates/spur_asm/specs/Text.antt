@@ -1,6 +1,5 @@
 -- How a whole text is read.
-use Rattle.std.specs.Prelude.{◌≡◌, ℕ, ◌==◌, Bool, if◌then◌else◌, nat_eq, List, [], ◌∷◌, ◌++◌, Option, Some, None, Result, Ok, Err, IsErr, map}
-use Rattle.std.specs.Borrow.{Bor}
+use Rattle.std.specs.Prelude.{◌≡◌, ℕ, ◌==◌, Bool, if◌then◌else◌, nat_eq, List, [], ◌∷◌, ◌++◌, Option, Some, None, Result, Ok, Err, IsErr}
 use Rattle.std.specs.List.{onto_first, ends_with}
 use Rattle.spur_asm.specs.Context.{first_context, next_of}
 use Rattle.spur_asm.specs.Pages.{are_declared}
@@ -30,10 +29,6 @@ lines_of (b ∷ bytes) = if is_feed b then [] ∷ lines_of bytes else onto_first
 -- whether the last line has its line feed; a text without lines has none
 abbrev pub is_ended : List ℕ → Bool
 is_ended text = ends_with nat_eq text (10 ∷ [])
-
--- the lines that slices hold
-abbrev pub texts : List (Bor (List ℕ)) → List (List ℕ)
-texts lines = map (λ line. line.now) lines
 
 -- ---- the statements, in the order of their lines
 

@@ -14,6 +14,8 @@ mod number;
 mod pages;
 mod reg;
 mod statement;
+#[cfg(test)]
+mod tests;
 mod unit;
 
 pub use assembler::assemble;

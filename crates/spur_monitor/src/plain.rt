@@ -190,114 +190,58 @@ mod tests {
         }
     }
 
+    fn li(a: Reg, i: i16) -> Instr {
+        Instr::Li { a, i }
+    }
+
+    fn addi(a: Reg, b: Reg, i: i16) -> Instr {
+        Instr::AddI { a, b, i }
+    }
+
+    fn ld(a: Reg, i: i16, b: Reg) -> Instr {
+        Instr::Ld { a, b, i }
+    }
+
+    fn st(a: Reg, i: i16, b: Reg) -> Instr {
+        Instr::St { a, b, i }
+    }
+
+    fn load(va: u32) -> Want {
+        let kind = AccessKind::Load;
+        Access { kind, va, value: 0 }
+    }
+
+    fn store(va: u32, value: u32) -> Want {
+        let kind = AccessKind::Store;
+        Access { kind, va, value }
+    }
+
     #[test]
     fn each_instruction_wants_and_writes_this(rt: HostRuntime) -> Result<(), Fail> {
         let zero = Reg::of(0).ok_or("register 0")?;
         let ones = Reg::of(1).ok_or("register 1")?;
         let five = Reg::of(2).ok_or("register 2")?;
         let last = Reg::of(15).ok_or("register 15")?;
-        let load = |va| Access {
-            kind: AccessKind::Load,
-            va,
-            value: 0,
-        };
-        let store = |va, value| Access {
-            kind: AccessKind::Store,
-            va,
-            value,
-        };
         let rows = [
-            (Instr::Li { a: last, i: 41 }, Local, last, 41),
-            (Instr::Li { a: last, i: -32768 }, Local, last, 0xffff_8000),
-            (Instr::Li { a: zero, i: 7 }, Local, zero, 0),
+            (li(last, 41), Local, last, 41),
+            (li(last, -32768), Local, last, 0xffff_8000),
+            (li(zero, 7), Local, zero, 0),
+            (addi(last, ones, 1), Local, last, 0),
+            (addi(last, five, -7), Local, last, 0xffff_fffe),
+            (addi(zero, five, 1), Local, zero, 0),
+            (ld(last, 59, five), load(64), last, 0x1234),
+            (ld(last, 1, ones), load(0), last, 0x1234),
+            (ld(zero, -5, five), load(0), zero, 0),
             (
-                Instr::AddI {
-                    a: last,
-                    b: ones,
-                    i: 1,
-                },
-                Local,
-                last,
-                0,
-            ),
-            (
-                Instr::AddI {
-                    a: last,
-                    b: five,
-                    i: -7,
-                },
-                Local,
-                last,
-                0xffff_fffe,
-            ),
-            (
-                Instr::AddI {
-                    a: zero,
-                    b: five,
-                    i: 1,
-                },
-                Local,
-                zero,
-                0,
-            ),
-            (
-                Instr::Ld {
-                    a: last,
-                    b: five,
-                    i: 59,
-                },
-                load(64),
-                last,
-                0x1234,
-            ),
-            (
-                Instr::Ld {
-                    a: last,
-                    b: ones,
-                    i: 1,
-                },
-                load(0),
-                last,
-                0x1234,
-            ),
-            (
-                Instr::Ld {
-                    a: zero,
-                    b: five,
-                    i: -5,
-                },
-                load(0),
-                zero,
-                0,
-            ),
-            (
-                Instr::St {
-                    a: ones,
-                    b: five,
-                    i: 59,
-                },
+                st(ones, 59, five),
                 store(64, 0xffff_ffff),
                 ones,
                 0xffff_ffff,
             ),
-            (
-                Instr::St {
-                    a: zero,
-                    b: zero,
-                    i: -4,
-                },
-                store(0xffff_fffc, 0),
-                zero,
-                0,
-            ),
+            (st(zero, -4, zero), store(0xffff_fffc, 0), zero, 0),
         ];
         for (instr, want, reg, word) in rows {
-            let code = [
-                Instr::Li { a: ones, i: -1 },
-                Instr::Li { a: five, i: 5 },
-                instr,
-            ];
-            let mut cpu = processor(rt.alloc(), &code)?;
+            let mut cpu = processor(rt.alloc(), &[li(ones, -1), li(five, 5), instr])?;
             proceed(&mut cpu, 0);
             proceed(&mut cpu, 0);
             assert_eq!(rt; cpu.want(), want, "{instr:?}");
@@ -312,22 +256,17 @@ mod tests {
     #[test]
     fn halt_the_end_of_the_program_and_a_fault_end_it(rt: HostRuntime) -> Result<(), Fail> {
         let zero = Reg::of(0).ok_or("register 0")?;
-        let last = Reg::of(15).ok_or("register 15")?;
         let mut halts = processor(rt.alloc(), &[Instr::Halt])?;
         proceed(&mut halts, 0);
         assert_eq!(rt; halts.want(), Want::Ended);
+
         let mut runs_out = processor(rt.alloc(), &[])?;
         assert_eq!(rt; runs_out.want(), Local);
         proceed(&mut runs_out, 0);
         assert_eq!(rt; runs_out.want(), Want::Ended);
-        let mut faults = processor(
-            rt.alloc(),
-            &[Instr::Ld {
-                a: last,
-                b: zero,
-                i: 2,
-            }],
-        )?;
+
+        let mut faults = processor(rt.alloc(), &[ld(zero, 2, zero)])?;
+        assert_eq!(rt; faults.want(), load(2));
         if let Access { .. } = faults.want() {
             faults.answer(Answer::Faulted(FaultKind::Align));
         }
