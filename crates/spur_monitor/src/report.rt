@@ -82,6 +82,7 @@ impl Status {
 pub struct Outcome {
     /// How the call ended.
     pub status: Status,
-    /// What came of the run: given where the text was run and its report was written or begun to be written.
+    /// What came of the run: given where the text was run, also where its report could not be written, or memory was
+    /// wanting for its text.
     pub report: Option<Report>,
 }
