@@ -39,7 +39,7 @@ fn register_named(name: &[u8]) -> Option<Reg>
 {
     match name {
         [b'r', d] if d.is_ascii_digit() => Reg::of(*d - b'0'),
-        [b'r', b'1', d] if d.is_ascii_digit() && *d < b'6' => Reg::of(10 + (*d - b'0')),
+        [b'r', b'1', d] if d.is_ascii_digit() => Reg::of(10 + (*d - b'0')),
         _ => None,
     }
 }
