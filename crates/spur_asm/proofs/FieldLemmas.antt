@@ -1,228 +1,167 @@
--- Each field that is spelled is read, and what is read is spelled.
-use Rattle.std.proofs.Common.{◌≡◌, ℕ, ◌+◌, ◌-◌, ◌%◌, ◌<◌, ◌≤◌, Bool, true, false, ◌&&◌, ◌||◌, cond, eqb, ltb, List, [], ◌∷◌, ◌++◌, Option, Some, None, Result, Ok, Err, refl, sym, ap, subst, ◌∙◌, arith, inl, inr, ℤ, pos, ◌≤ℤ◌, append-nil}
-use Rattle.std.proofs.lemmas.Bool.{and_parts, eqb-true, eq-eqb, lt-ltb, le-ltb, ltb-true, cases_lt}
-use Rattle.std.proofs.lemmas.Int.{ints}
-use Rattle.std.specs.Prelude.{int_lt, unsigned_abs, codes, negsuc}
-use Rattle.std.specs.Char.{is_ascii_digit}
+-- Each field both ways over the lexemes of a line: where its token stands, it is read and the lexemes behind it are left; and what is read
+-- stands there as its token.
+use Rattle.std.proofs.Common.{◌≡◌, ℕ, ◌%◌, ◌<◌, ◌≤◌, Bool, true, false, List, [], ◌∷◌, Option, Some, Result, Ok, Err, refl, ap, subst, ◌∙◌, ℤ, pos, negsuc, ◌≤ℤ◌}
+use Rattle.std.proofs.lemmas.Bool.{eq-eqb}
 use Rattle.spur_addr.specs.declared.page_entry.Protection.{Protection}
-use Rattle.spur_addr.specs.declared.page_entry.Protection.TheVariants.{Nothing, ReadOnly, ReadWrite}
-use Rattle.spur_asm.specs.Number.{number_of}
-use Rattle.spur_asm.specs.Fields.{◌>>=◌, word_at, behind_word, mark_at, end_at, known_at, register_of, register_at, protection_of, protection_at, number_within, number_at, natural_at, offset_at}
-use Rattle.spur_asm.specs.Spelling.{IsNumberWithin, IsNumberUpTo, register_text, protection_text}
+use Rattle.spur_isa.specs.Ranges.{IsSigned16}
+use Rattle.spur_asm.specs.Token.{Token, Name, Number, Mark}
+use Rattle.spur_asm.specs.Item.{register, protection_text, natural}
+use Rattle.spur_asm.specs.Lexeme.{Lexeme}
+use Rattle.spur_asm.specs.Fields.{◌>>=◌, taken, field_at, unwanted, leftover, end_at, mark_in, register_in, protection_in, number_in, natural_in, offset_in, label_in, mark_at, register_at, protection_at, number_at, immediate_at, natural_at, offset_at, label_at}
 use Rattle.spur_asm.specs.declared.fault.Kind.{Kind}
 use Rattle.spur_asm.specs.declared.fault.Misfit.{Misfit}
-use Rattle.spur_asm.proofs.WordLemmas.{NoMark, AtMark, word_front, behind_front, word_parts, named_or}
-use Rattle.spur_asm.proofs.NumberLemmas.{digit_tests, digit_range, digit_no_mark, number_read, number_is, number_no_mark}
+use Rattle.spur_asm.proofs.Levels.{AreTokens}
+use Rattle.spur_asm.proofs.ValueLemmas.{bind_ok, mark_is, register_read, register_is, protection_read, protection_is, number_read, number_is, natural_read, natural_is, offset_read, offset_is, label_read, label_is}
 
--- ---- a step of a chain
+-- ---- any field
 
--- the value of a step that did not fail
-pub bind_ok : {A B : Type 0} (r : Result A Misfit) (f : A → Result B Misfit) (y : B) → (r >>= f) ≡ Ok y → (x : A) × (r ≡ Ok x) × (f x ≡ Ok y)
-bind_ok (Ok x) f y e = (x, refl, e)
-bind_ok (Err m) f y e = absurd cc
+-- what follows a token that stands there, whatever is read behind it
+abbrev pub Onward : {A B : Type 0} → List Token → (A × List Lexeme → Result B Misfit) → A → Result B Misfit → Type 0
+Onward tokens f x r = (rest : List Lexeme) → AreTokens rest tokens → f (x, rest) ≡ r
 
-ok_or : {A : Type 0} (b : Bool) (x y : A) (m : Misfit) → cond b (Ok x) (Err m) ≡ Ok y → (b ≡ true) × (x ≡ y)
-ok_or true x y m e = (refl, cc)
-ok_or false x y m e = absurd cc
+-- the token stands first, and the rest is what stands behind it
+abbrev pub IsFirst : List Lexeme → Token → List Lexeme → Type 0
+IsFirst lexemes token rest = (tokens : List Token) → AreTokens rest tokens → AreTokens lexemes (token ∷ tokens)
 
-mark_is : (c : ℕ) (bytes rest : List ℕ) → mark_at c bytes ≡ Ok rest → bytes ≡ c ∷ rest
-mark_is c [] rest e = absurd cc
-mark_is c (x ∷ xs) rest e =
-    let t = ok_or (eqb x c) xs rest _ e in
-    let same : x ≡ c = eqb-true x c t.0 in
-    cc
+-- the same, where the token is this one
+first_as : (lexemes : List Lexeme) (token same : Token) (rest : List Lexeme) → token ≡ same → IsFirst lexemes token rest → IsFirst lexemes same rest
+first_as lexemes token same rest is stands = subst (λ (t : Token). IsFirst lexemes t rest) is stands
 
-pub end_is : {A : Type 0} (a b : A) (bytes : List ℕ) → end_at a bytes ≡ Ok b → (bytes ≡ []) × (a ≡ b)
-end_is a b [] e = (refl, cc)
-end_is a b (x ∷ xs) e = absurd cc
+field_read : {A B : Type 0} (value_of : Token → Result A Kind) (token : Token) (x : A) (tokens : List Token) (lexemes : List Lexeme) (f : A × List Lexeme → Result B Misfit) (r : Result B Misfit)
+    → value_of token ≡ Ok x → AreTokens lexemes (token ∷ tokens) → Onward tokens f x r → (field_at value_of lexemes >>= f) ≡ r
+field_read value_of token x tokens [] f r value are next = absurd are
+field_read value_of token x tokens (one ∷ rest) f r value are next = rw (are.0.token_is, value, are.0.free) (next rest are.1)
 
--- a word that was known, and where it stood
-record IsKnown {A : Type 0} (word : Option A) (bytes : List ℕ) (a : A) (rest : List ℕ) : Type 0 where
-  known : word ≡ Some a
-  parts : bytes ≡ word_at bytes ++ rest
+-- a field that was read: the token that it is
+record IsField {A : Type 0} (value_of : Token → Result A Kind) (lexemes : List Lexeme) (x : A) (rest : List Lexeme) : Type 0 where
+  token : Token
+  value : value_of token ≡ Ok x
+  stands : IsFirst lexemes token rest
 
-known_is : {A : Type 0} (kind : Kind) (bytes : List ℕ) (word : Option A) (a : A) (rest : List ℕ) → known_at kind bytes word ≡ Ok (a, rest) → IsKnown word bytes a rest
-known_is kind bytes None a rest e = absurd cc
-known_is {A} kind bytes (Some b) a rest e =
-    let pair : (b, behind_word bytes) ≡ (a, rest) = cc in
+taken_is : {A : Type 0} (value_of : Token → Result A Kind) (one : Lexeme) (lexemes : List Lexeme) (token : Result Token Kind) (value : Result A Kind) (glued : Bool) (x : A) (rest : List Lexeme)
+    → one.token ≡ token → (token >>= value_of) ≡ value → one.glued ≡ glued → taken (record one { glued = glued }) value lexemes ≡ Ok (x, rest) → IsField value_of (one ∷ lexemes) x rest
+taken_is value_of one lexemes token (Err kind) glued x rest is stood free e = absurd cc
+taken_is value_of one lexemes token (Ok y) true x rest is stood free e = absurd cc
+taken_is value_of one lexemes (Err kind) (Ok y) false x rest is stood free e = absurd cc
+taken_is {A} value_of one lexemes (Ok token) (Ok y) false x rest is stood free e =
+    let pair : (y, lexemes) ≡ (x, rest) = cc in
     record {
-      known = ap (λ (p : A × List ℕ). Some p.0) pair;
-      parts = word_parts bytes ∙ ap (λ (p : A × List ℕ). word_at bytes ++ p.1) pair;
+      token = token;
+      value = stood ∙ ap (λ (p : A × List Lexeme). Ok p.0) pair;
+      stands = λ tokens are. (record { token_is = is; free = free }, rw (ap (λ (p : A × List Lexeme). p.1) pair) are);
     }
 
--- ---- numbers
+field_is : {A : Type 0} (value_of : Token → Result A Kind) (lexemes : List Lexeme) (x : A) (rest : List Lexeme) → field_at value_of lexemes ≡ Ok (x, rest) → IsField value_of lexemes x rest
+field_is value_of [] x rest e = absurd cc
+field_is value_of (one ∷ lexemes) x rest e = taken_is value_of one lexemes one.token (one.token >>= value_of) one.glued x rest refl refl refl e
 
-inside : (low high z : ℤ) → low ≤ℤ z → z ≤ℤ high → (int_lt z low || int_lt high z) ≡ false
-inside low high z least most = grind (arith, ints)
+field_then : {A B : Type 0} (value_of : Token → Result A Kind) (lexemes : List Lexeme) (f : A × List Lexeme → Result B Misfit) (y : B) → (field_at value_of lexemes >>= f) ≡ Ok y
+    → (P : Type 0) → ((x : A) (token : Token) (rest : List Lexeme) → value_of token ≡ Ok x → IsFirst lexemes token rest → f (x, rest) ≡ Ok y → P) → P
+field_then value_of lexemes f y e P next =
+    let s = bind_ok (field_at value_of lexemes) f y e in
+    let is = field_is value_of lexemes s.value.0 s.value.1 s.is in
+    next s.value.0 is.token s.value.1 is.value is.stands s.next
 
-pub number_again : (low high : ℤ) (text : List ℕ) (z : ℤ) (rest : List ℕ) → IsNumberWithin low high text z → AtMark rest → number_at low high (text ++ rest) ≡ Ok (z, rest)
-number_again low high text z rest n at =
-    let free = number_no_mark text z n.number in
-    rw (word_front text rest free at, number_read text z n.number, inside low high z n.least n.most, behind_front text rest free at) refl
+-- ---- the end of a line
 
-pub natural_again : (high : ℕ) (text : List ℕ) (n : ℕ) (rest : List ℕ) → IsNumberUpTo high text n → AtMark rest → natural_at high (text ++ rest) ≡ Ok (n, rest)
-natural_again high text n rest is at = rw (number_again (pos 0) (pos high) text (pos n) rest is at) refl
+pub end_read : {A : Type 0} (value : A) (lexemes : List Lexeme) → AreTokens lexemes [] → end_at value lexemes ≡ Ok value
+end_read value [] are = refl
+end_read value (one ∷ lexemes) are = absurd are
 
-pub offset_again : (text : List ℕ) (n : ℕ) (rest : List ℕ) → IsNumberUpTo 1073741820 text n → n % 4 ≡ 0 → AtMark rest → offset_at (text ++ rest) ≡ Ok (n, rest)
-offset_again text n rest is aligned at = rw (natural_again 1073741820 text n rest is at, eq-eqb (n % 4) 0 aligned) refl
+leftover_fails : {A : Type 0} (one : Lexeme) (token : Result Token Kind) (b : A) → leftover one (token >>= unwanted) ≡ Ok b → ⊥
+leftover_fails one (Ok token) b e = cc
+leftover_fails one (Err kind) b e = cc
 
--- at the end of the line
-pub number_last : (low high : ℤ) (text : List ℕ) (z : ℤ) → IsNumberWithin low high text z → number_at low high text ≡ Ok (z, [])
-number_last low high text z n = ap (number_at low high) (sym (append-nil text)) ∙ number_again low high text z [] n tt
-
-inside_least : (low high z : ℤ) → (int_lt z low || int_lt high z) ≡ false → low ≤ℤ z
-inside_least low high z e = grind (arith, ints)
-
-inside_most : (low high z : ℤ) → (int_lt z low || int_lt high z) ≡ false → z ≤ℤ high
-inside_most low high z e = grind (arith, ints)
-
-none_or : {A : Type 0} (b : Bool) (x y : A) → cond b None (Some x) ≡ Some y → (b ≡ false) × (x ≡ y)
-none_or true x y e = absurd cc
-none_or false x y e = (refl, cc)
-
-within_is : (low high z : ℤ) (text : List ℕ) (read : Option ℤ) → number_of text ≡ read → number_within low high read ≡ Some z → IsNumberWithin low high text z
-within_is low high z text None r e = absurd cc
-within_is low high z text (Some y) r e =
-    let t = none_or (int_lt y low || int_lt high y) y z e in
-    subst (λ (x : ℤ). IsNumberWithin low high text x) t.1 (record { number = number_is text y r; least = inside_least low high y t.0; most = inside_most low high y t.0 })
-
-pub number_then : {A : Type 0} (low high : ℤ) (bytes : List ℕ) (f : ℤ × List ℕ → Result A Misfit) (y : A) → (number_at low high bytes >>= f) ≡ Ok y
-    → (P : Type 0) → ((z : ℤ) (text rest : List ℕ) → IsNumberWithin low high text z → bytes ≡ text ++ rest → f (z, rest) ≡ Ok y → P) → P
-number_then low high bytes f y e P next =
-    let b = bind_ok (number_at low high bytes) f y e in
-    let k = known_is _ bytes _ b.0.0 b.0.1 b.1 in
-    next b.0.0 (word_at bytes) b.0.1 (within_is low high b.0.0 (word_at bytes) (number_of (word_at bytes)) refl k.known) k.parts b.2
-
-natural_is : (high : ℕ) (z : ℤ) (text : List ℕ) → IsNumberWithin (pos 0) (pos high) text z → IsNumberUpTo high text (unsigned_abs z)
-natural_is high (pos n) text is = is
-natural_is high (negsuc n) text is = absurd (let least = is.least in search)
-
-pub natural_then : {A : Type 0} (high : ℕ) (bytes : List ℕ) (f : ℕ × List ℕ → Result A Misfit) (y : A) → (natural_at high bytes >>= f) ≡ Ok y
-    → (P : Type 0) → ((n : ℕ) (text rest : List ℕ) → IsNumberUpTo high text n → bytes ≡ text ++ rest → f (n, rest) ≡ Ok y → P) → P
-natural_then high bytes f y e P next =
-    let b = bind_ok (natural_at high bytes) f y e in
-    number_then (pos 0) (pos high) bytes _ _ b.1 P (λ z text rest is parts e.
-    next (unsigned_abs z) text rest (natural_is high z text is) parts (let same : (unsigned_abs z, rest) ≡ b.0 = cc in ap f same ∙ b.2))
-
-pub offset_then : {A : Type 0} (bytes : List ℕ) (f : ℕ × List ℕ → Result A Misfit) (y : A) → (offset_at bytes >>= f) ≡ Ok y
-    → (P : Type 0) → ((n : ℕ) (text rest : List ℕ) → IsNumberUpTo 1073741820 text n → n % 4 ≡ 0 → bytes ≡ text ++ rest → f (n, rest) ≡ Ok y → P) → P
-offset_then bytes f y e P next =
-    let b = bind_ok (offset_at bytes) f y e in
-    natural_then 1073741820 bytes _ _ b.1 P (λ n text rest is parts e.
-    let t = ok_or (eqb (n % 4) 0) (n, rest) b.0 _ e in
-    next n text rest is (eqb-true (n % 4) 0 t.0) parts (ap f t.1 ∙ b.2))
-
--- ---- registers
-
-one_digit : (a : ℕ) → a < 10 → register_of (114 ∷ (48 + a) ∷ []) ≡ Some a
-one_digit a low =
-    let back : 48 + a - 48 ≡ a = omega arith in
-    rw (digit_tests (48 + a) (omega arith, omega arith), back) refl
-
-two_digits : (a : ℕ) → 10 ≤ a → a < 16 → register_of (114 ∷ 49 ∷ (48 + (a - 10)) ∷ []) ≡ Some a
-two_digits a high below =
-    let back : 48 + (a - 10) - 38 ≡ a = omega arith in
-    rw (digit_tests (48 + (a - 10)) (omega arith, omega arith), lt-ltb (48 + (a - 10)) 54 (omega arith), back) refl
-
--- a register's text is one of two
-register_cases : (a : ℕ) (P : List ℕ → Type 0) → (a < 10 → P (114 ∷ (48 + a) ∷ [])) → (10 ≤ a → P (114 ∷ 49 ∷ (48 + (a - 10)) ∷ [])) → P (register_text a)
-register_cases a P one two =
-    elim (cases_lt a 10) [
-      | inl low ↦ rw (lt-ltb a 10 low) (one low)
-      | inr high ↦ rw (le-ltb a 10 high) (two high)
-    ]
-
-register_read : (a : ℕ) → a < 16 → register_of (register_text a) ≡ Some a
-register_read a below = register_cases a (λ text. register_of text ≡ Some a) (one_digit a) (λ high. two_digits a high below)
-
-register_no_mark : (a : ℕ) → a < 16 → NoMark (register_text a)
-register_no_mark a below = register_cases a NoMark
-    (λ low. (refl, (digit_no_mark (48 + a) (omega arith, omega arith), tt)))
-    (λ high. (refl, (refl, (digit_no_mark (48 + (a - 10)) (omega arith, omega arith), tt))))
-
-pub register_again : (a : ℕ) (rest : List ℕ) → a < 16 → AtMark rest → register_at (register_text a ++ rest) ≡ Ok (a, rest)
-register_again a rest below at =
-    let free = register_no_mark a below in
-    rw (word_front (register_text a) rest free at, register_read a below, behind_front (register_text a) rest free at) refl
-
--- the text is that of a register
-record IsRegister (text : List ℕ) (a : ℕ) : Type 0 where
-  below : a < 16
-  spelled : text ≡ register_text a
-
-if_some : {A : Type 0} (b : Bool) (x y : A) → cond b (Some x) None ≡ Some y → (b ≡ true) × (x ≡ y)
-if_some true x y e = (refl, cc)
-if_some false x y e = absurd cc
-
-two_is : (r d a : ℕ) → cond (eqb r 114 && is_ascii_digit d) (Some (d - 48)) None ≡ Some a → IsRegister (r ∷ d ∷ []) a
-two_is r d a e =
-    let t = if_some (eqb r 114 && is_ascii_digit d) (d - 48) a e in
-    let p = and_parts (eqb r 114) (is_ascii_digit d) t.0 in
-    let head : r ≡ 114 = eqb-true r 114 p.0 in
-    let range = digit_range d p.1 in
-    let value : d - 48 ≡ a = t.1 in
-    let low : a < 10 = omega arith in
-    let digit : d ≡ 48 + a = omega arith in
-    record { below = omega arith; spelled = rw (lt-ltb a 10 low, head, digit) refl }
-
-three_is : (r one d a : ℕ) → cond (eqb r 114 && eqb one 49 && is_ascii_digit d && ltb d 54) (Some (d - 38)) None ≡ Some a → IsRegister (r ∷ one ∷ d ∷ []) a
-three_is r one d a e =
-    let t = if_some (eqb r 114 && eqb one 49 && is_ascii_digit d && ltb d 54) (d - 38) a e in
-    let p3 = and_parts (eqb r 114 && eqb one 49 && is_ascii_digit d) (ltb d 54) t.0 in
-    let p2 = and_parts (eqb r 114 && eqb one 49) (is_ascii_digit d) p3.0 in
-    let p1 = and_parts (eqb r 114) (eqb one 49) p2.0 in
-    let head : r ≡ 114 = eqb-true r 114 p1.0 in
-    let second : one ≡ 49 = eqb-true one 49 p1.1 in
-    let range = digit_range d p2.1 in
-    let less : d < 54 = ltb-true d 54 p3.1 in
-    let value : d - 38 ≡ a = t.1 in
-    let high : 10 ≤ a = omega arith in
-    let digit : d ≡ 48 + (a - 10) = omega arith in
-    record { below = omega arith; spelled = rw (le-ltb a 10 high, head, second, digit) refl }
-
-register_is : (text : List ℕ) (a : ℕ) → register_of text ≡ Some a → IsRegister text a
-register_is [] a e = absurd cc
-register_is (r ∷ []) a e = absurd cc
-register_is (r ∷ d ∷ []) a e = two_is r d a e
-register_is (r ∷ one ∷ d ∷ []) a e = three_is r one d a e
-register_is (r ∷ one ∷ d ∷ x ∷ more) a e = absurd cc
-
-pub register_then : {A : Type 0} (bytes : List ℕ) (f : ℕ × List ℕ → Result A Misfit) (y : A) → (register_at bytes >>= f) ≡ Ok y
-    → (P : Type 0) → ((a : ℕ) (rest : List ℕ) → a < 16 → bytes ≡ register_text a ++ rest → f (a, rest) ≡ Ok y → P) → P
-register_then bytes f y e P next =
-    let b = bind_ok (register_at bytes) f y e in
-    let k = known_is _ bytes _ b.0.0 b.0.1 b.1 in
-    let r = register_is (word_at bytes) b.0.0 k.known in
-    next b.0.0 b.0.1 r.below (k.parts ∙ ap (λ (text : List ℕ). text ++ b.0.1) r.spelled) b.2
-
--- ---- protections
-
-pub protection_again : (prot : Protection) (rest : List ℕ) → AtMark rest → protection_at (protection_text prot ++ rest) ≡ Ok (prot, rest)
-protection_again Nothing rest at = let free : NoMark (codes "none") = (refl, (refl, (refl, (refl, tt)))) in rw (word_front (codes "none") rest free at, behind_front (codes "none") rest free at) refl
-protection_again ReadOnly rest at = let free : NoMark (codes "ro") = (refl, (refl, tt)) in rw (word_front (codes "ro") rest free at, behind_front (codes "ro") rest free at) refl
-protection_again ReadWrite rest at = let free : NoMark (codes "rw") = (refl, (refl, tt)) in rw (word_front (codes "rw") rest free at, behind_front (codes "rw") rest free at) refl
-
--- at the end of the line
-pub protection_last : (prot : Protection) → protection_at (protection_text prot) ≡ Ok (prot, [])
-protection_last Nothing = refl
-protection_last ReadOnly = refl
-protection_last ReadWrite = refl
-
-protection_is : (word : List ℕ) (prot : Protection) → protection_of word ≡ Some prot → word ≡ protection_text prot
-protection_is word prot e =
-    named_or protection_text word (codes "none") Nothing prot _ refl (λ e1.
-    named_or protection_text word (codes "ro") ReadOnly prot _ refl (λ e2.
-    named_or protection_text word (codes "rw") ReadWrite prot None refl (λ e3. absurd cc) e2) e1) e
-
-pub protection_then : {A : Type 0} (bytes : List ℕ) (f : Protection × List ℕ → Result A Misfit) (y : A) → (protection_at bytes >>= f) ≡ Ok y
-    → (P : Type 0) → ((prot : Protection) (rest : List ℕ) → bytes ≡ protection_text prot ++ rest → f (prot, rest) ≡ Ok y → P) → P
-protection_then bytes f y e P next =
-    let b = bind_ok (protection_at bytes) f y e in
-    let k = known_is _ bytes _ b.0.0 b.0.1 b.1 in
-    next b.0.0 b.0.1 (k.parts ∙ ap (λ (text : List ℕ). text ++ b.0.1) (protection_is (word_at bytes) b.0.0 k.known)) b.2
+pub end_is : {A : Type 0} (a b : A) (lexemes : List Lexeme) → end_at a lexemes ≡ Ok b → AreTokens lexemes [] × (a ≡ b)
+end_is a b [] e = (tt, cc)
+end_is a b (one ∷ lexemes) e = absurd (leftover_fails one one.token b e)
 
 -- ---- marks
 
-pub mark_then : {A : Type 0} (c : ℕ) (bytes : List ℕ) (f : List ℕ → Result A Misfit) (y : A) → (mark_at c bytes >>= f) ≡ Ok y
-    → (P : Type 0) → ((rest : List ℕ) → bytes ≡ c ∷ rest → f rest ≡ Ok y → P) → P
-mark_then c bytes f y e P next = let b = bind_ok (mark_at c bytes) f y e in next b.0 (mark_is c bytes b.0 b.1) b.2
+mark_value : (wanted : ℕ) → mark_in wanted (Mark wanted) ≡ Ok wanted
+mark_value wanted = rw (eq-eqb wanted wanted refl) refl
+
+pub mark_field : {A : Type 0} (mark : ℕ) (tokens : List Token) (lexemes : List Lexeme) (f : ℕ × List Lexeme → Result A Misfit) (r : Result A Misfit)
+    → AreTokens lexemes (Mark mark ∷ tokens) → Onward tokens f mark r → (mark_at mark lexemes >>= f) ≡ r
+mark_field mark tokens lexemes f r are next = field_read (mark_in mark) (Mark mark) mark tokens lexemes f r (mark_value mark) are next
+
+pub mark_then : {A : Type 0} (mark : ℕ) (lexemes : List Lexeme) (f : ℕ × List Lexeme → Result A Misfit) (y : A) → (mark_at mark lexemes >>= f) ≡ Ok y
+    → (P : Type 0) → ((x : ℕ) (rest : List Lexeme) → IsFirst lexemes (Mark mark) rest → f (x, rest) ≡ Ok y → P) → P
+mark_then mark lexemes f y e P next = field_then (mark_in mark) lexemes f y e P (λ x token rest value stands e.
+    next x rest (first_as lexemes token (Mark mark) rest (mark_is mark token x value) stands) e)
+
+-- ---- registers
+
+pub register_field : {A : Type 0} (a : ℕ) (tokens : List Token) (lexemes : List Lexeme) (f : ℕ × List Lexeme → Result A Misfit) (r : Result A Misfit)
+    → a < 16 → AreTokens lexemes (register a ∷ tokens) → Onward tokens f a r → (register_at lexemes >>= f) ≡ r
+register_field a tokens lexemes f r below are next = field_read register_in (register a) a tokens lexemes f r (register_read a below) are next
+
+pub register_then : {A : Type 0} (lexemes : List Lexeme) (f : ℕ × List Lexeme → Result A Misfit) (y : A) → (register_at lexemes >>= f) ≡ Ok y
+    → (P : Type 0) → ((a : ℕ) (rest : List Lexeme) → a < 16 → IsFirst lexemes (register a) rest → f (a, rest) ≡ Ok y → P) → P
+register_then lexemes f y e P next = field_then register_in lexemes f y e P (λ a token rest value stands e.
+    let is = register_is token a value in
+    next a rest is.0 (first_as lexemes token (register a) rest is.1 stands) e)
+
+-- ---- protections
+
+pub protection_field : {A : Type 0} (prot : Protection) (tokens : List Token) (lexemes : List Lexeme) (f : Protection × List Lexeme → Result A Misfit) (r : Result A Misfit)
+    → AreTokens lexemes (Name (protection_text prot) ∷ tokens) → Onward tokens f prot r → (protection_at lexemes >>= f) ≡ r
+protection_field prot tokens lexemes f r are next = field_read protection_in (Name (protection_text prot)) prot tokens lexemes f r (protection_read prot) are next
+
+pub protection_then : {A : Type 0} (lexemes : List Lexeme) (f : Protection × List Lexeme → Result A Misfit) (y : A) → (protection_at lexemes >>= f) ≡ Ok y
+    → (P : Type 0) → ((prot : Protection) (rest : List Lexeme) → IsFirst lexemes (Name (protection_text prot)) rest → f (prot, rest) ≡ Ok y → P) → P
+protection_then lexemes f y e P next = field_then protection_in lexemes f y e P (λ prot token rest value stands e.
+    next prot rest (first_as lexemes token (Name (protection_text prot)) rest (protection_is token prot value) stands) e)
+
+-- ---- numbers
+
+pub number_field : {A : Type 0} (low high z : ℤ) (tokens : List Token) (lexemes : List Lexeme) (f : ℤ × List Lexeme → Result A Misfit) (r : Result A Misfit)
+    → low ≤ℤ z → z ≤ℤ high → AreTokens lexemes (Number z ∷ tokens) → Onward tokens f z r → (number_at low high lexemes >>= f) ≡ r
+number_field low high z tokens lexemes f r least most are next = field_read (number_in low high) (Number z) z tokens lexemes f r (number_read low high z least most) are next
+
+pub number_then : {A : Type 0} (low high : ℤ) (lexemes : List Lexeme) (f : ℤ × List Lexeme → Result A Misfit) (y : A) → (number_at low high lexemes >>= f) ≡ Ok y
+    → (P : Type 0) → ((z : ℤ) (rest : List Lexeme) → low ≤ℤ z → z ≤ℤ high → IsFirst lexemes (Number z) rest → f (z, rest) ≡ Ok y → P) → P
+number_then low high lexemes f y e P next = field_then (number_in low high) lexemes f y e P (λ z token rest value stands e.
+    let is = number_is low high token z value in
+    next z rest is.least is.most (first_as lexemes token (Number z) rest is.is stands) e)
+
+pub immediate_field : {A : Type 0} (i : ℤ) (tokens : List Token) (lexemes : List Lexeme) (f : ℤ × List Lexeme → Result A Misfit) (r : Result A Misfit)
+    → IsSigned16 i → AreTokens lexemes (Number i ∷ tokens) → Onward tokens f i r → (immediate_at lexemes >>= f) ≡ r
+immediate_field i tokens lexemes f r fits are next = number_field (negsuc 32767) (pos 32767) i tokens lexemes f r fits.least fits.most are next
+
+pub immediate_then : {A : Type 0} (lexemes : List Lexeme) (f : ℤ × List Lexeme → Result A Misfit) (y : A) → (immediate_at lexemes >>= f) ≡ Ok y
+    → (P : Type 0) → ((i : ℤ) (rest : List Lexeme) → IsSigned16 i → IsFirst lexemes (Number i) rest → f (i, rest) ≡ Ok y → P) → P
+immediate_then lexemes f y e P next = number_then (negsuc 32767) (pos 32767) lexemes f y e P (λ i rest least most stands e.
+    next i rest (record { least = least; most = most }) stands e)
+
+pub natural_field : {A : Type 0} (high n : ℕ) (tokens : List Token) (lexemes : List Lexeme) (f : ℕ × List Lexeme → Result A Misfit) (r : Result A Misfit)
+    → n ≤ high → AreTokens lexemes (natural n ∷ tokens) → Onward tokens f n r → (natural_at high lexemes >>= f) ≡ r
+natural_field high n tokens lexemes f r most are next = field_read (natural_in high) (natural n) n tokens lexemes f r (natural_read high n most) are next
+
+pub natural_then : {A : Type 0} (high : ℕ) (lexemes : List Lexeme) (f : ℕ × List Lexeme → Result A Misfit) (y : A) → (natural_at high lexemes >>= f) ≡ Ok y
+    → (P : Type 0) → ((n : ℕ) (rest : List Lexeme) → n ≤ high → IsFirst lexemes (natural n) rest → f (n, rest) ≡ Ok y → P) → P
+natural_then high lexemes f y e P next = field_then (natural_in high) lexemes f y e P (λ n token rest value stands e.
+    let is = natural_is high token n value in
+    next n rest is.0 (first_as lexemes token (natural n) rest is.1 stands) e)
+
+pub offset_field : {A : Type 0} (n : ℕ) (tokens : List Token) (lexemes : List Lexeme) (f : ℕ × List Lexeme → Result A Misfit) (r : Result A Misfit)
+    → n ≤ 1073741820 → n % 4 ≡ 0 → AreTokens lexemes (natural n ∷ tokens) → Onward tokens f n r → (offset_at lexemes >>= f) ≡ r
+offset_field n tokens lexemes f r most aligned are next = field_read (offset_in 1073741820) (natural n) n tokens lexemes f r (offset_read 1073741820 n most aligned) are next
+
+pub offset_then : {A : Type 0} (lexemes : List Lexeme) (f : ℕ × List Lexeme → Result A Misfit) (y : A) → (offset_at lexemes >>= f) ≡ Ok y
+    → (P : Type 0) → ((n : ℕ) (rest : List Lexeme) → n ≤ 1073741820 → n % 4 ≡ 0 → IsFirst lexemes (natural n) rest → f (n, rest) ≡ Ok y → P) → P
+offset_then lexemes f y e P next = field_then (offset_in 1073741820) lexemes f y e P (λ n token rest value stands e.
+    let is = offset_is 1073741820 token n value in
+    next n rest is.most is.aligned (first_as lexemes token (natural n) rest is.is stands) e)
+
+-- ---- labels
+
+pub label_field : {A : Type 0} (immediate_of : List ℕ → Option ℤ) (name : List ℕ) (i : ℤ) (tokens : List Token) (lexemes : List Lexeme) (f : ℤ × List Lexeme → Result A Misfit) (r : Result A Misfit)
+    → immediate_of name ≡ Some i → AreTokens lexemes (Name name ∷ tokens) → Onward tokens f i r → (label_at immediate_of lexemes >>= f) ≡ r
+label_field immediate_of name i tokens lexemes f r leads are next = field_read (label_in immediate_of) (Name name) i tokens lexemes f r (label_read immediate_of name i leads) are next
+
+pub label_then : {A : Type 0} (immediate_of : List ℕ → Option ℤ) (lexemes : List Lexeme) (f : ℤ × List Lexeme → Result A Misfit) (y : A) → (label_at immediate_of lexemes >>= f) ≡ Ok y
+    → (P : Type 0) → ((i : ℤ) (name : List ℕ) (rest : List Lexeme) → immediate_of name ≡ Some i → IsFirst lexemes (Name name) rest → f (i, rest) ≡ Ok y → P) → P
+label_then immediate_of lexemes f y e P next = field_then (label_in immediate_of) lexemes f y e P (λ i token rest value stands e.
+    let is = label_is immediate_of token i value in
+    next i is.name rest is.leads (first_as lexemes token (Name is.name) rest is.is stands) e)

@@ -1,12 +1,17 @@
--- The first line of a text, its statement, and what is read behind it.
-use Rattle.std.proofs.Common.{◌≡◌, refl, ap, ℕ, ◌==◌, false, List, [], ◌∷◌, length, arith, Result, Ok, Err}
-use Rattle.std.specs.List.{before_first, after_first}
+-- The first line of a text, and what is read behind it.
+use Rattle.std.proofs.Common.{◌≡◌, ◌∙◌, refl, sym, ap, ℕ, ◌+◌, ◌≤◌, ◌==◌, false, List, [], ◌∷◌, ◌++◌, length, arith, Option, Some, None, Result, Ok, Err}
+use Rattle.std.specs.List.{before_first, after_first, position_or_len}
 use Rattle.std.specs.Result.{IsErrAnd}
 use Rattle.std.proofs.lemmas.Grind.{common_steps}
+use Rattle.std.proofs.lemmas.List.{append_assoc, length-drop}
+use Rattle.spur_asm.specs.Bytes.{is_feed}
+use Rattle.spur_asm.specs.Lexeme.{lexemes_of}
+use Rattle.spur_asm.specs.Context.{Placed, IsWithin, label_in, labels_from, next_of, onto_labels}
 use Rattle.spur_asm.specs.Fields.{◌>>=◌}
-use Rattle.spur_asm.specs.Context.{next_of}
-use Rattle.spur_asm.specs.Line.{statement_at, step_at}
-use Rattle.spur_asm.specs.Text.{is_feed, lines_of, draft_from, with_statement, GivesDraft}
+use Rattle.spur_asm.specs.Line.{line_at}
+use Rattle.spur_asm.specs.Step.{step_at}
+use Rattle.spur_asm.specs.Draft.{with_line}
+use Rattle.spur_asm.specs.Text.{lines_of, draft_from, GivesDraft}
 use Rattle.spur_asm.specs.declared.draft.Draft.{Draft}
 use Rattle.spur_asm.specs.declared.fault.AsmFault.{AsmFault}
 use Rattle.spur_asm.specs.declared.fault.AsmFault.TheVariants as faults
@@ -23,26 +28,59 @@ pub lines_of-first : (text : List ℕ) → (length text == 0) ≡ false → line
 lines_of-first [] e = absurd (grind arith)
 lines_of-first (b ∷ bytes) e = lines_of-cons b bytes
 
--- the draft of the lines from one on whose statement was read, or had a fault
-draft_from-Ok : (read : Result Statement Misfit) (c next after : Context) (d : Draft) (lines : List (List ℕ)) (s : Statement) → ◌>>=◌ {B = Statement × Context} read (λ t. Ok (t, after)) ≡ Ok (s, next) → read >>= (λ t. draft_from after (with_statement d t) lines) ≡ draft_from next (with_statement d s) lines
-draft_from-Ok (Ok t) c next after d lines s e =
-    let here : Statement × Context = (t, after) in
-    let there : Statement × Context = (s, next) in
+-- what stands behind the first line is shorter
+pub after_first-shorter : (text rest : List ℕ) → (length text == 0) ≡ false → rest ≡ after_first is_feed text → length rest + 1 ≤ length text
+after_first-shorter [] rest e is = absurd (grind arith)
+after_first-shorter (b ∷ bytes) rest e is = rw is (omega (arith, length-drop (position_or_len is_feed (b ∷ bytes) + 1) (b ∷ bytes)))
+
+-- ---- counts
+
+-- what is within a bound is within a greater one
+pub within_more : (k n : ℕ) (c : Context) → IsWithin k c → k ≤ n → IsWithin n c
+within_more k n c h le =
+    let p = h.pages in let w = h.words in let b = h.boards in let s = h.segs in let o = h.codes in let l = h.labels in
+    record { pages = omega arith; words = omega arith; boards = omega arith; segs = omega arith; codes = omega arith; labels = omega arith }
+
+-- ---- labels
+
+onto_more : (c : Context) (o : Option (List ℕ)) (front rest : List Placed) → (front ++ onto_labels c o []) ++ rest ≡ front ++ onto_labels c o rest
+onto_more c None front rest = append_assoc front [] rest
+onto_more c (Some w) front rest = append_assoc front (record { board = c.boards; name = w; place = c.codes } ∷ []) rest
+
+-- one more line's label
+pub labels_from-line : (c next : Context) (front more whole : List Placed) (text : List ℕ) → (length text == 0) ≡ false → next ≡ next_of c (before_first is_feed text)
+    → more ≡ front ++ onto_labels c (label_in (lexemes_of (before_first is_feed text))) [] → front ++ labels_from c (lines_of text) ≡ whole
+    → more ++ labels_from next (lines_of (after_first is_feed text)) ≡ whole
+labels_from-line c next front more whole text some is_next is_more so_far =
+    let line : List ℕ = before_first is_feed text in
+    let rest : List Placed = labels_from (next_of c line) (lines_of (after_first is_feed text)) in
+    ap (λ (n : Context). more ++ labels_from n (lines_of (after_first is_feed text))) is_next
+    ∙ ap (λ (m : List Placed). m ++ rest) is_more
+    ∙ onto_more c (label_in (lexemes_of line)) front rest
+    ∙ sym (ap (λ (ls : List (List ℕ)). front ++ labels_from c ls) (lines_of-first text some))
+    ∙ so_far
+
+-- ---- the draft of the lines from one on whose statement was read, or had a fault
+
+draft_from-Ok : (all : List Placed) (read : Result (Option Statement) Misfit) (next after : Context) (d : Draft) (lines : List (List ℕ)) (s : Option Statement) → ◌>>=◌ {B = Option Statement × Context} read (λ t. Ok (t, after)) ≡ Ok (s, next) → read >>= (λ t. draft_from all after (with_line d t) lines) ≡ draft_from all next (with_line d s) lines
+draft_from-Ok all (Ok t) next after d lines s e =
+    let here : Option Statement × Context = (t, after) in
+    let there : Option Statement × Context = (s, next) in
     let same : here ≡ there = cc in
-    ap (λ p. draft_from p.1 (with_statement d p.0) lines) same
-draft_from-Ok (Err m) c next after d lines s e = cc
+    ap (λ p. draft_from all p.1 (with_line d p.0) lines) same
+draft_from-Ok all (Err m) next after d lines s e = cc
 
-draft_from-Err : (read : Result Statement Misfit) (after : Context) (d : Draft) (lines : List (List ℕ)) (m : Misfit) → ◌>>=◌ {B = Statement × Context} read (λ t. Ok (t, after)) ≡ Err m → read >>= (λ t. draft_from after (with_statement d t) lines) ≡ Err m
-draft_from-Err (Ok t) after d lines m e = cc
-draft_from-Err (Err n) after d lines m e = cc
+draft_from-Err : (all : List Placed) (read : Result (Option Statement) Misfit) (after : Context) (d : Draft) (lines : List (List ℕ)) (m : Misfit) → ◌>>=◌ {B = Option Statement × Context} read (λ t. Ok (t, after)) ≡ Err m → read >>= (λ t. draft_from all after (with_line d t) lines) ≡ Err m
+draft_from-Err all (Ok t) after d lines m e = cc
+draft_from-Err all (Err n) after d lines m e = cc
 
-pub draft_from-line : (c next : Context) (d : Draft) (text : List ℕ) (s : Statement) → (length text == 0) ≡ false → step_at c (before_first is_feed text) ≡ Ok (s, next) → draft_from c d (lines_of text) ≡ draft_from next (with_statement d s) (lines_of (after_first is_feed text))
-draft_from-line c next d text s some e =
-    rw (lines_of-first text some) (draft_from-Ok (statement_at c (before_first is_feed text)) c next (next_of c (before_first is_feed text)) d (lines_of (after_first is_feed text)) s e)
+pub draft_from-line : (all : List Placed) (c next : Context) (d : Draft) (text : List ℕ) (s : Option Statement) → (length text == 0) ≡ false → step_at all c (before_first is_feed text) ≡ Ok (s, next) → draft_from all c d (lines_of text) ≡ draft_from all next (with_line d s) (lines_of (after_first is_feed text))
+draft_from-line all c next d text s some e =
+    rw (lines_of-first text some) (draft_from-Ok all (line_at all c (before_first is_feed text)) next (next_of c (before_first is_feed text)) d (lines_of (after_first is_feed text)) s e)
 
-pub draft_from-fault : (c : Context) (d : Draft) (text : List ℕ) (m : Misfit) → (length text == 0) ≡ false → step_at c (before_first is_feed text) ≡ Err m → draft_from c d (lines_of text) ≡ Err m
-draft_from-fault c d text m some e =
-    rw (lines_of-first text some) (draft_from-Err (statement_at c (before_first is_feed text)) (next_of c (before_first is_feed text)) d (lines_of (after_first is_feed text)) m e)
+pub draft_from-fault : (all : List Placed) (c : Context) (d : Draft) (text : List ℕ) (m : Misfit) → (length text == 0) ≡ false → step_at all c (before_first is_feed text) ≡ Err m → draft_from all c d (lines_of text) ≡ Err m
+draft_from-fault all c d text m some e =
+    rw (lines_of-first text some) (draft_from-Err all (line_at all c (before_first is_feed text)) (next_of c (before_first is_feed text)) d (lines_of (after_first is_feed text)) m e)
 
 -- the answer of a text with a line that does not fit
 pub GivesDraft-fault : (result : Result Draft AsmFault) (read : Result Draft Misfit) (m : Misfit) → IsErrAnd result (λ fault. fault ≡ faults.NotYet) → read ≡ Err m → GivesDraft result read

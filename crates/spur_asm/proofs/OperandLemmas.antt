@@ -1,214 +1,241 @@
--- What follows a line's name: fields that are spelled are read, and what is read is spelled.
-use Rattle.std.proofs.Common.{◌≡◌, ℕ, ◌+◌, ◌*◌, ◌%◌, ◌^◌, ◌<◌, List, [], ◌∷◌, ◌++◌, Ok, refl, sym, ap, ◌∙◌, ℤ, pos, negsuc, append-nil}
-use Rattle.std.specs.Prelude.{codes}
-use Rattle.std.specs.Int.{int_rem_euclid}
-use Rattle.spur_addr.specs.declared.page_entry.Protection.{Protection}
-use Rattle.spur_asm.specs.Number.{low_word}
-use Rattle.spur_asm.specs.Line.{page_at, word_text_at, li_at, addi_at, access_at}
-use Rattle.spur_asm.specs.Spelling.{IsNumberWithin, IsNumberUpTo, IsImmediate, register_text, protection_text, SpellsPage, SpellsWord, SpellsLi, SpellsAddI}
-use Rattle.spur_asm.specs.declared.instr.Instr.{Instr}
-use Rattle.spur_asm.specs.declared.instr.Instr.TheVariants.{Li, AddI}
-use Rattle.spur_asm.specs.declared.unit.PageText.{PageText}
-use Rattle.spur_asm.specs.declared.unit.WordText.{WordText}
-use Rattle.spur_asm.proofs.FieldLemmas.{end_is, mark_then, number_then, natural_then, offset_then, register_then, protection_then, number_again, number_last, natural_again, offset_again, register_again, protection_last}
+-- Each form of what stands behind a statement's name, both ways: fields that are spelled are read, and what is read is spelled.
+use Rattle.std.proofs.Common.{◌≡◌, ℕ, ◌≤◌, List, [], ◌∷◌, Option, Some, Ok, subst, arith, ℤ}
+use Rattle.spur_isa.specs.Ranges.{IsReg, IsSigned16, IsUnsigned16}
+use Rattle.spur_asm.specs.Token.{Name, Number, comma, opening, closing}
+use Rattle.spur_asm.specs.Item.{register, natural}
+use Rattle.spur_asm.specs.Lexeme.{Lexeme}
+use Rattle.spur_asm.specs.Statements.{one_at, li_at, lih_at, addi_at, three_at, access_at, branch_at, jmp_at, call_at}
+use Rattle.spur_asm.proofs.Levels.{AreTokens}
+use Rattle.spur_asm.proofs.FieldLemmas.{end_read, end_is, mark_field, mark_then, register_field, register_then, immediate_field, immediate_then, natural_field, natural_then, label_field, label_then}
 
--- ---- what is spelled is read
+-- ---- `a, i`
 
-pub page_read : (page : PageText) (segment place : ℕ) (segment_text place_text : List ℕ) → IsNumberUpTo 255 segment_text segment → IsNumberUpTo 262143 place_text place
-    → page.page ≡ segment * 2 ^ 18 + place → page_at (32 ∷ (segment_text ++ (32 ∷ (place_text ++ (32 ∷ protection_text page.prot))))) ≡ Ok page
-unfolding page_at
-page_read page segment place segment_text place_text is_segment is_place page_is =
-    rw (natural_again 255 segment_text segment (32 ∷ (place_text ++ (32 ∷ protection_text page.prot))) is_segment refl, natural_again 262143 place_text place (32 ∷ protection_text page.prot) is_place refl, protection_last page.prot)
-    (ap (λ (n : ℕ). Ok (record { page = n; prot = page.prot })) (sym page_is))
+abbrev pub SpellLi : List Lexeme → ℕ × ℤ → Type 0
+SpellLi l0 f = (IsReg f.0 × IsSigned16 f.1) × AreTokens l0 (register f.0 ∷ comma ∷ Number f.1 ∷ [])
 
-low_word_is : (value : ℕ) (z : ℤ) → pos value ≡ int_rem_euclid z (pos (2 ^ 32)) → low_word z ≡ value
-low_word_is value z e = rw (← e) refl
-
-pub word_read : (word : WordText) (segment offset : ℕ) (value : ℤ) (segment_text offset_text value_text : List ℕ) → IsNumberUpTo 255 segment_text segment
-    → IsNumberUpTo 1073741820 offset_text offset → offset % 4 ≡ 0 → IsNumberWithin (negsuc 2147483647) (pos 4294967295) value_text value
-    → word.at ≡ segment * 2 ^ 30 + offset → pos word.value ≡ int_rem_euclid value (pos (2 ^ 32)) → word_text_at (32 ∷ (segment_text ++ (32 ∷ (offset_text ++ (32 ∷ value_text))))) ≡ Ok word
-unfolding word_text_at
-word_read word segment offset value segment_text offset_text value_text is_segment is_offset aligned is_value at_is value_is =
-    rw (natural_again 255 segment_text segment (32 ∷ (offset_text ++ (32 ∷ value_text))) is_segment refl, offset_again offset_text offset (32 ∷ value_text) is_offset aligned refl, number_last (negsuc 2147483647) (pos 4294967295) value_text value is_value)
-    (ap (λ (p : ℕ × ℕ). Ok (record { at = p.0; value = p.1 })) (λ k. (sym at_is k, low_word_is word.value value value_is k)))
-
-pub li_read : (a : ℕ) (i : ℤ) (text : List ℕ) → a < 16 → IsImmediate text i → li_at (32 ∷ (register_text a ++ (44 ∷ 32 ∷ text))) ≡ Ok (Li a i)
+pub li_read : (l0 : List Lexeme) (f : ℕ × ℤ) → SpellLi l0 f → li_at l0 ≡ Ok f
 unfolding li_at
-li_read a i text below is = rw (register_again a (44 ∷ 32 ∷ text) below refl, number_last (negsuc 32767) (pos 32767) text i is) refl
+li_read l0 f s =
+    register_field f.0 _ l0 _ _ s.0.0 s.1 (λ l1 t1.
+    mark_field 44 _ l1 _ _ t1 (λ l2 t2.
+    immediate_field f.1 _ l2 _ _ s.0.1 t2 (λ l3 t3.
+    end_read (f.0, f.1) l3 t3)))
 
-pub addi_read : (a b : ℕ) (i : ℤ) (text : List ℕ) → a < 16 → b < 16 → IsImmediate text i → addi_at (32 ∷ (register_text a ++ (44 ∷ 32 ∷ (register_text b ++ (44 ∷ 32 ∷ text))))) ≡ Ok (AddI a b i)
-unfolding addi_at
-addi_read a b i text below below' is =
-    rw (register_again a (44 ∷ 32 ∷ (register_text b ++ (44 ∷ 32 ∷ text))) below refl, register_again b (44 ∷ 32 ∷ text) below' refl, number_last (negsuc 32767) (pos 32767) text i is) refl
-
-pub access_read : (a b : ℕ) (i : ℤ) (text : List ℕ) → a < 16 → b < 16 → IsImmediate text i → access_at (32 ∷ (register_text a ++ (44 ∷ 32 ∷ (text ++ (40 ∷ (register_text b ++ (41 ∷ []))))))) ≡ Ok (a, b, i)
-unfolding access_at
-access_read a b i text below below' is =
-    rw (register_again a (44 ∷ 32 ∷ (text ++ (40 ∷ (register_text b ++ (41 ∷ []))))) below refl, number_again (negsuc 32767) (pos 32767) text i (40 ∷ (register_text b ++ (41 ∷ []))) is refl, register_again b (41 ∷ []) below' refl) refl
-
--- ---- what is read is spelled
-
--- for each form of a line: the bytes behind the name, put together from what stands at their front and what is left behind that
-
-page_text : (bytes b0 s b1 b2 p b3 b4 b5 : List ℕ) (prot prot' : Protection) → bytes ≡ 32 ∷ b0 → b0 ≡ s ++ b1 → b1 ≡ 32 ∷ b2 → b2 ≡ p ++ b3 → b3 ≡ 32 ∷ b4 → b4 ≡ protection_text prot ++ b5 → b5 ≡ [] → prot ≡ prot'
-    → bytes ≡ 32 ∷ (s ++ (32 ∷ (p ++ (32 ∷ protection_text prot'))))
-page_text bytes b0 s b1 b2 p b3 b4 b5 prot prot' e0 e1 e2 e3 e4 e5 e6 same = rw (e0, e1, e2, e3, e4, e5, e6, same, append-nil (protection_text prot')) refl
-
-pub page_back : (bytes : List ℕ) (page : PageText) → page_at bytes ≡ Ok page → SpellsPage (codes ".page" ++ bytes) page
-unfolding page_at
-page_back bytes page e =
-    let P : Type 0 = SpellsPage (codes ".page" ++ bytes) page in
-    mark_then 32 bytes _ _ e P (λ b0 p0 e0.
-    natural_then 255 b0 _ _ e0 P (λ segment segment_text b1 is_segment p1 e1.
-    mark_then 32 b1 _ _ e1 P (λ b2 p2 e2.
-    natural_then 262143 b2 _ _ e2 P (λ place place_text b3 is_place p3 e3.
-    mark_then 32 b3 _ _ e3 P (λ b4 p4 e4.
-    protection_then b4 _ _ e4 P (λ prot b5 p5 e5.
-    let t = end_is (record { page = segment * 2 ^ 18 + place; prot = prot }) page b5 e5 in
-    record {
-      segment = segment;
-      place = place;
-      segment_text = segment_text;
-      place_text = place_text;
-      is_segment = is_segment;
-      is_place = is_place;
-      spelled = ap (λ (bs : List ℕ). codes ".page" ++ bs) (page_text bytes b0 segment_text b1 b2 place_text b3 b4 b5 prot page.prot p0 p1 p2 p3 p4 p5 t.0 (ap (λ (q : PageText). q.prot) t.1));
-      page_is = sym (ap (λ (q : PageText). q.page) t.1);
-    }))))))
-
-word_text : (bytes b0 s b1 b2 o b3 b4 v b5 : List ℕ) → bytes ≡ 32 ∷ b0 → b0 ≡ s ++ b1 → b1 ≡ 32 ∷ b2 → b2 ≡ o ++ b3 → b3 ≡ 32 ∷ b4 → b4 ≡ v ++ b5 → b5 ≡ []
-    → bytes ≡ 32 ∷ (s ++ (32 ∷ (o ++ (32 ∷ v))))
-word_text bytes b0 s b1 b2 o b3 b4 v b5 e0 e1 e2 e3 e4 e5 e6 = rw (e0, e1, e2, e3, e4, e5, e6, append-nil v) refl
-
-low_word_of : (z : ℤ) → pos (low_word z) ≡ int_rem_euclid z (pos (2 ^ 32))
-low_word_of (pos n) = refl
-low_word_of (negsuc n) = refl
-
-pub word_back : (bytes : List ℕ) (word : WordText) → word_text_at bytes ≡ Ok word → SpellsWord (codes ".word" ++ bytes) word
-unfolding word_text_at
-word_back bytes word e =
-    let P : Type 0 = SpellsWord (codes ".word" ++ bytes) word in
-    mark_then 32 bytes _ _ e P (λ b0 p0 e0.
-    natural_then 255 b0 _ _ e0 P (λ segment segment_text b1 is_segment p1 e1.
-    mark_then 32 b1 _ _ e1 P (λ b2 p2 e2.
-    offset_then b2 _ _ e2 P (λ offset offset_text b3 is_offset aligned p3 e3.
-    mark_then 32 b3 _ _ e3 P (λ b4 p4 e4.
-    number_then (negsuc 2147483647) (pos 4294967295) b4 _ _ e4 P (λ value value_text b5 is_value p5 e5.
-    let t = end_is (record { at = segment * 2 ^ 30 + offset; value = low_word value }) word b5 e5 in
-    record {
-      segment = segment;
-      offset = offset;
-      value = value;
-      segment_text = segment_text;
-      offset_text = offset_text;
-      value_text = value_text;
-      is_segment = is_segment;
-      is_offset = is_offset;
-      aligned = aligned;
-      is_value = is_value;
-      spelled = ap (λ (bs : List ℕ). codes ".word" ++ bs) (word_text bytes b0 segment_text b1 b2 offset_text b3 b4 value_text b5 p0 p1 p2 p3 p4 p5 t.0);
-      at_is = sym (ap (λ (q : WordText). q.at) t.1);
-      value_is = sym (ap (λ (q : WordText). pos q.value) t.1) ∙ low_word_of value;
-    }))))))
-
-li_text : (bytes b0 b1 b2 b3 text b4 : List ℕ) (a : ℕ) → bytes ≡ 32 ∷ b0 → b0 ≡ register_text a ++ b1 → b1 ≡ 44 ∷ b2 → b2 ≡ 32 ∷ b3 → b3 ≡ text ++ b4 → b4 ≡ []
-    → bytes ≡ 32 ∷ (register_text a ++ (44 ∷ 32 ∷ text))
-li_text bytes b0 b1 b2 b3 text b4 a e0 e1 e2 e3 e4 e5 = rw (e0, e1, e2, e3, e4, e5, append-nil text) refl
-
--- an instruction that was read: its fields, and how they are spelled
-pub record ReadsLi (bytes : List ℕ) (instr : Instr) : Type 0 where
-  pub a : ℕ
-  pub i : ℤ
-  pub is : Li a i ≡ instr
-  pub spelled : SpellsLi (codes "li" ++ bytes) a i
-
-pub li_back : (bytes : List ℕ) (instr : Instr) → li_at bytes ≡ Ok instr → ReadsLi bytes instr
+pub li_is : (l0 : List Lexeme) (f : ℕ × ℤ) → li_at l0 ≡ Ok f → SpellLi l0 f
 unfolding li_at
-li_back bytes instr e =
-    let P : Type 0 = ReadsLi bytes instr in
-    mark_then 32 bytes _ _ e P (λ b0 p0 e0.
-    register_then b0 _ _ e0 P (λ a b1 below p1 e1.
-    mark_then 44 b1 _ _ e1 P (λ b2 p2 e2.
-    mark_then 32 b2 _ _ e2 P (λ b3 p3 e3.
-    number_then (negsuc 32767) (pos 32767) b3 _ _ e3 P (λ i text b4 is p4 e4.
-    let t = end_is (Li a i) instr b4 e4 in
-    record {
-      a = a;
-      i = i;
-      is = t.1;
-      spelled = record { text = text; is_immediate = is; is_register = below; spelled = ap (λ (bs : List ℕ). codes "li" ++ bs) (li_text bytes b0 b1 b2 b3 text b4 a p0 p1 p2 p3 p4 t.0) };
-    })))))
+li_is l0 f e =
+    let P : Type 0 = SpellLi l0 f in
+    register_then l0 _ _ e P (λ a l1 is_a t0 e1.
+    mark_then 44 l1 _ _ e1 P (λ m l2 t1 e2.
+    immediate_then l2 _ _ e2 P (λ i l3 is_i t2 e3.
+    let end = end_is (a, i) f l3 e3 in
+    subst (SpellLi l0) end.1 ((is_a, is_i), t0 _ (t1 _ (t2 _ end.0))))))
 
-addi_text : (bytes b0 b1 b2 b3 b4 b5 b6 text b7 : List ℕ) (a b : ℕ) → bytes ≡ 32 ∷ b0 → b0 ≡ register_text a ++ b1 → b1 ≡ 44 ∷ b2 → b2 ≡ 32 ∷ b3 → b3 ≡ register_text b ++ b4 → b4 ≡ 44 ∷ b5 → b5 ≡ 32 ∷ b6 → b6 ≡ text ++ b7 → b7 ≡ []
-    → bytes ≡ 32 ∷ (register_text a ++ (44 ∷ 32 ∷ (register_text b ++ (44 ∷ 32 ∷ text))))
-addi_text bytes b0 b1 b2 b3 b4 b5 b6 text b7 a b e0 e1 e2 e3 e4 e5 e6 e7 e8 = rw (e0, e1, e2, e3, e4, e5, e6, e7, e8, append-nil text) refl
+-- ---- `a`
 
--- the same of `addi`
-pub record ReadsAddI (bytes : List ℕ) (instr : Instr) : Type 0 where
-  pub a : ℕ
-  pub b : ℕ
-  pub i : ℤ
-  pub is : AddI a b i ≡ instr
-  pub spelled : SpellsAddI (codes "addi" ++ bytes) a b i
+abbrev pub SpellOne : List Lexeme → ℕ → Type 0
+SpellOne l0 a = IsReg a × AreTokens l0 (register a ∷ [])
 
-pub addi_back : (bytes : List ℕ) (instr : Instr) → addi_at bytes ≡ Ok instr → ReadsAddI bytes instr
+pub one_read : (l0 : List Lexeme) (a : ℕ) → SpellOne l0 a → one_at l0 ≡ Ok a
+unfolding one_at
+one_read l0 a s =
+    register_field a _ l0 _ _ s.0 s.1 (λ l1 t1.
+    end_read a l1 t1)
+
+pub one_is : (l0 : List Lexeme) (f : ℕ) → one_at l0 ≡ Ok f → SpellOne l0 f
+unfolding one_at
+one_is l0 f e =
+    let P : Type 0 = SpellOne l0 f in
+    register_then l0 _ _ e P (λ a l1 is_a t0 e1.
+    let end = end_is a f l1 e1 in
+    subst (SpellOne l0) end.1 (is_a, t0 _ end.0))
+
+-- ---- `a, u`
+
+abbrev pub SpellLih : List Lexeme → ℕ × ℕ → Type 0
+SpellLih l0 f = (IsReg f.0 × IsUnsigned16 f.1) × AreTokens l0 (register f.0 ∷ comma ∷ natural f.1 ∷ [])
+
+up_to : (u : ℕ) → IsUnsigned16 u → u ≤ 65535
+up_to u below = omega arith
+
+below_of : (u : ℕ) → u ≤ 65535 → IsUnsigned16 u
+below_of u most = omega arith
+
+pub lih_read : (l0 : List Lexeme) (f : ℕ × ℕ) → SpellLih l0 f → lih_at l0 ≡ Ok f
+unfolding lih_at
+lih_read l0 f s =
+    register_field f.0 _ l0 _ _ s.0.0 s.1 (λ l1 t1.
+    mark_field 44 _ l1 _ _ t1 (λ l2 t2.
+    natural_field 65535 f.1 _ l2 _ _ (up_to f.1 s.0.1) t2 (λ l3 t3.
+    end_read (f.0, f.1) l3 t3)))
+
+pub lih_is : (l0 : List Lexeme) (f : ℕ × ℕ) → lih_at l0 ≡ Ok f → SpellLih l0 f
+unfolding lih_at
+lih_is l0 f e =
+    let P : Type 0 = SpellLih l0 f in
+    register_then l0 _ _ e P (λ a l1 is_a t0 e1.
+    mark_then 44 l1 _ _ e1 P (λ m l2 t1 e2.
+    natural_then 65535 l2 _ _ e2 P (λ u l3 most t2 e3.
+    let end = end_is (a, u) f l3 e3 in
+    subst (SpellLih l0) end.1 ((is_a, below_of u most), t0 _ (t1 _ (t2 _ end.0))))))
+
+-- ---- `a, b, i`
+
+abbrev pub SpellAddI : List Lexeme → ℕ × ℕ × ℤ → Type 0
+SpellAddI l0 f = (IsReg f.0 × IsReg f.1 × IsSigned16 f.2) × AreTokens l0 (register f.0 ∷ comma ∷ register f.1 ∷ comma ∷ Number f.2 ∷ [])
+
+pub addi_read : (l0 : List Lexeme) (f : ℕ × ℕ × ℤ) → SpellAddI l0 f → addi_at l0 ≡ Ok f
 unfolding addi_at
-addi_back bytes instr e =
-    let P : Type 0 = ReadsAddI bytes instr in
-    mark_then 32 bytes _ _ e P (λ b0 p0 e0.
-    register_then b0 _ _ e0 P (λ a b1 below p1 e1.
-    mark_then 44 b1 _ _ e1 P (λ b2 p2 e2.
-    mark_then 32 b2 _ _ e2 P (λ b3 p3 e3.
-    register_then b3 _ _ e3 P (λ b b4 below' p4 e4.
-    mark_then 44 b4 _ _ e4 P (λ b5 p5 e5.
-    mark_then 32 b5 _ _ e5 P (λ b6 p6 e6.
-    number_then (negsuc 32767) (pos 32767) b6 _ _ e6 P (λ i text b7 is p7 e7.
-    let t = end_is (AddI a b i) instr b7 e7 in
-    record {
-      a = a;
-      b = b;
-      i = i;
-      is = t.1;
-      spelled = record { text = text; is_immediate = is; is_target = below; is_source = below'; spelled = ap (λ (bs : List ℕ). codes "addi" ++ bs) (addi_text bytes b0 b1 b2 b3 b4 b5 b6 text b7 a b p0 p1 p2 p3 p4 p5 p6 p7 t.0) };
-    }))))))))
+addi_read l0 f s =
+    register_field f.0 _ l0 _ _ s.0.0 s.1 (λ l1 t1.
+    mark_field 44 _ l1 _ _ t1 (λ l2 t2.
+    register_field f.1 _ l2 _ _ s.0.1 t2 (λ l3 t3.
+    mark_field 44 _ l3 _ _ t3 (λ l4 t4.
+    immediate_field f.2 _ l4 _ _ s.0.2 t4 (λ l5 t5.
+    end_read (f.0, f.1, f.2) l5 t5)))))
 
-access_text : (bytes b0 b1 b2 b3 text b4 b5 b6 b7 : List ℕ) (a b : ℕ) → bytes ≡ 32 ∷ b0 → b0 ≡ register_text a ++ b1 → b1 ≡ 44 ∷ b2 → b2 ≡ 32 ∷ b3 → b3 ≡ text ++ b4 → b4 ≡ 40 ∷ b5 → b5 ≡ register_text b ++ b6 → b6 ≡ 41 ∷ b7 → b7 ≡ []
-    → bytes ≡ 32 ∷ (register_text a ++ (44 ∷ 32 ∷ (text ++ (40 ∷ (register_text b ++ (41 ∷ []))))))
-access_text bytes b0 b1 b2 b3 text b4 b5 b6 b7 a b e0 e1 e2 e3 e4 e5 e6 e7 e8 = rw (e0, e1, e2, e3, e4, e5, e6, e7, e8) refl
+pub addi_is : (l0 : List Lexeme) (f : ℕ × ℕ × ℤ) → addi_at l0 ≡ Ok f → SpellAddI l0 f
+unfolding addi_at
+addi_is l0 f e =
+    let P : Type 0 = SpellAddI l0 f in
+    register_then l0 _ _ e P (λ a l1 is_a t0 e1.
+    mark_then 44 l1 _ _ e1 P (λ m l2 t1 e2.
+    register_then l2 _ _ e2 P (λ b l3 is_b t2 e3.
+    mark_then 44 l3 _ _ e3 P (λ n l4 t3 e4.
+    immediate_then l4 _ _ e4 P (λ i l5 is_i t4 e5.
+    let end = end_is (a, b, i) f l5 e5 in
+    subst (SpellAddI l0) end.1 ((is_a, is_b, is_i), t0 _ (t1 _ (t2 _ (t3 _ (t4 _ end.0))))))))))
 
--- the operands of `ld` or `st` that were read, and how they are spelled
-pub record ReadsAccess (bytes : List ℕ) (operands : ℕ × ℕ × ℤ) : Type 0 where
-  pub a : ℕ
-  pub b : ℕ
-  pub i : ℤ
-  pub is : (a, b, i) ≡ operands
-  pub text : List ℕ
-  pub is_immediate : IsImmediate text i
-  pub is_register : a < 16
-  pub is_base : b < 16
-  pub spelled : bytes ≡ 32 ∷ (register_text a ++ (44 ∷ 32 ∷ (text ++ (40 ∷ (register_text b ++ (41 ∷ []))))))
+-- ---- `a, b, c`
 
-pub access_back : (bytes : List ℕ) (operands : ℕ × ℕ × ℤ) → access_at bytes ≡ Ok operands → ReadsAccess bytes operands
+abbrev pub SpellThree : List Lexeme → ℕ × ℕ × ℕ → Type 0
+SpellThree l0 f = (IsReg f.0 × IsReg f.1 × IsReg f.2) × AreTokens l0 (register f.0 ∷ comma ∷ register f.1 ∷ comma ∷ register f.2 ∷ [])
+
+pub three_read : (l0 : List Lexeme) (f : ℕ × ℕ × ℕ) → SpellThree l0 f → three_at l0 ≡ Ok f
+unfolding three_at
+three_read l0 f s =
+    register_field f.0 _ l0 _ _ s.0.0 s.1 (λ l1 t1.
+    mark_field 44 _ l1 _ _ t1 (λ l2 t2.
+    register_field f.1 _ l2 _ _ s.0.1 t2 (λ l3 t3.
+    mark_field 44 _ l3 _ _ t3 (λ l4 t4.
+    register_field f.2 _ l4 _ _ s.0.2 t4 (λ l5 t5.
+    end_read (f.0, f.1, f.2) l5 t5)))))
+
+pub three_is : (l0 : List Lexeme) (f : ℕ × ℕ × ℕ) → three_at l0 ≡ Ok f → SpellThree l0 f
+unfolding three_at
+three_is l0 f e =
+    let P : Type 0 = SpellThree l0 f in
+    register_then l0 _ _ e P (λ a l1 is_a t0 e1.
+    mark_then 44 l1 _ _ e1 P (λ m l2 t1 e2.
+    register_then l2 _ _ e2 P (λ b l3 is_b t2 e3.
+    mark_then 44 l3 _ _ e3 P (λ n l4 t3 e4.
+    register_then l4 _ _ e4 P (λ c l5 is_c t4 e5.
+    let end = end_is (a, b, c) f l5 e5 in
+    subst (SpellThree l0) end.1 ((is_a, is_b, is_c), t0 _ (t1 _ (t2 _ (t3 _ (t4 _ end.0))))))))))
+
+-- ---- `a, i(b)`
+
+abbrev pub SpellAccess : List Lexeme → ℕ × ℕ × ℤ → Type 0
+SpellAccess l0 f = (IsReg f.0 × IsReg f.1 × IsSigned16 f.2) × AreTokens l0 (register f.0 ∷ comma ∷ Number f.2 ∷ opening ∷ register f.1 ∷ closing ∷ [])
+
+pub access_read : (l0 : List Lexeme) (f : ℕ × ℕ × ℤ) → SpellAccess l0 f → access_at l0 ≡ Ok f
 unfolding access_at
-access_back bytes operands e =
-    let P : Type 0 = ReadsAccess bytes operands in
-    mark_then 32 bytes _ _ e P (λ b0 p0 e0.
-    register_then b0 _ _ e0 P (λ a b1 below p1 e1.
-    mark_then 44 b1 _ _ e1 P (λ b2 p2 e2.
-    mark_then 32 b2 _ _ e2 P (λ b3 p3 e3.
-    number_then (negsuc 32767) (pos 32767) b3 _ _ e3 P (λ i text b4 is p4 e4.
-    mark_then 40 b4 _ _ e4 P (λ b5 p5 e5.
-    register_then b5 _ _ e5 P (λ b b6 below' p6 e6.
-    mark_then 41 b6 _ _ e6 P (λ b7 p7 e7.
-    let t = end_is (a, b, i) operands b7 e7 in
-    record {
-      a = a;
-      b = b;
-      i = i;
-      is = t.1;
-      text = text;
-      is_immediate = is;
-      is_register = below;
-      is_base = below';
-      spelled = access_text bytes b0 b1 b2 b3 text b4 b5 b6 b7 a b p0 p1 p2 p3 p4 p5 p6 p7 t.0;
-    }))))))))
+access_read l0 f s =
+    register_field f.0 _ l0 _ _ s.0.0 s.1 (λ l1 t1.
+    mark_field 44 _ l1 _ _ t1 (λ l2 t2.
+    immediate_field f.2 _ l2 _ _ s.0.2 t2 (λ l3 t3.
+    mark_field 40 _ l3 _ _ t3 (λ l4 t4.
+    register_field f.1 _ l4 _ _ s.0.1 t4 (λ l5 t5.
+    mark_field 41 _ l5 _ _ t5 (λ l6 t6.
+    end_read (f.0, f.1, f.2) l6 t6))))))
+
+pub access_is : (l0 : List Lexeme) (f : ℕ × ℕ × ℤ) → access_at l0 ≡ Ok f → SpellAccess l0 f
+unfolding access_at
+access_is l0 f e =
+    let P : Type 0 = SpellAccess l0 f in
+    register_then l0 _ _ e P (λ a l1 is_a t0 e1.
+    mark_then 44 l1 _ _ e1 P (λ m l2 t1 e2.
+    immediate_then l2 _ _ e2 P (λ i l3 is_i t2 e3.
+    mark_then 40 l3 _ _ e3 P (λ n l4 t3 e4.
+    register_then l4 _ _ e4 P (λ b l5 is_b t4 e5.
+    mark_then 41 l5 _ _ e5 P (λ o l6 t5 e6.
+    let end = end_is (a, b, i) f l6 e6 in
+    subst (SpellAccess l0) end.1 ((is_a, is_b, is_i), t0 _ (t1 _ (t2 _ (t3 _ (t4 _ (t5 _ end.0))))))))))))
+
+-- ---- `a, b, label`
+
+pub record SpellBranch (immediate : List ℕ → Option ℤ) (l0 : List Lexeme) (f : ℕ × ℕ × ℤ) : Type 0 where
+  pub label : List ℕ
+  pub leads : immediate label ≡ Some f.2
+  pub is_a : IsReg f.0
+  pub is_b : IsReg f.1
+  pub tokens : AreTokens l0 (register f.0 ∷ comma ∷ register f.1 ∷ comma ∷ Name label ∷ [])
+
+pub branch_read : (immediate : List ℕ → Option ℤ) (l0 : List Lexeme) (f : ℕ × ℕ × ℤ) → SpellBranch immediate l0 f → branch_at immediate l0 ≡ Ok f
+unfolding branch_at
+branch_read immediate l0 f s =
+    register_field f.0 _ l0 _ _ s.is_a s.tokens (λ l1 t1.
+    mark_field 44 _ l1 _ _ t1 (λ l2 t2.
+    register_field f.1 _ l2 _ _ s.is_b t2 (λ l3 t3.
+    mark_field 44 _ l3 _ _ t3 (λ l4 t4.
+    label_field immediate s.label f.2 _ l4 _ _ s.leads t4 (λ l5 t5.
+    end_read (f.0, f.1, f.2) l5 t5)))))
+
+pub branch_is : (immediate : List ℕ → Option ℤ) (l0 : List Lexeme) (f : ℕ × ℕ × ℤ) → branch_at immediate l0 ≡ Ok f → SpellBranch immediate l0 f
+unfolding branch_at
+branch_is immediate l0 f e =
+    let P : Type 0 = SpellBranch immediate l0 f in
+    register_then l0 _ _ e P (λ a l1 is_a t0 e1.
+    mark_then 44 l1 _ _ e1 P (λ m l2 t1 e2.
+    register_then l2 _ _ e2 P (λ b l3 is_b t2 e3.
+    mark_then 44 l3 _ _ e3 P (λ n l4 t3 e4.
+    label_then immediate l4 _ _ e4 P (λ i label l5 leads t4 e5.
+    let end = end_is (a, b, i) f l5 e5 in
+    subst (SpellBranch immediate l0) end.1 (record { label = label; leads = leads; is_a = is_a; is_b = is_b; tokens = t0 _ (t1 _ (t2 _ (t3 _ (t4 _ end.0)))) }))))))
+
+-- ---- `label`
+
+pub record SpellJmp (immediate : List ℕ → Option ℤ) (l0 : List Lexeme) (i : ℤ) : Type 0 where
+  pub label : List ℕ
+  pub leads : immediate label ≡ Some i
+  pub tokens : AreTokens l0 (Name label ∷ [])
+
+pub jmp_read : (immediate : List ℕ → Option ℤ) (l0 : List Lexeme) (i : ℤ) → SpellJmp immediate l0 i → jmp_at immediate l0 ≡ Ok i
+unfolding jmp_at
+jmp_read immediate l0 i s =
+    label_field immediate s.label i _ l0 _ _ s.leads s.tokens (λ l1 t1.
+    end_read i l1 t1)
+
+pub jmp_is : (immediate : List ℕ → Option ℤ) (l0 : List Lexeme) (f : ℤ) → jmp_at immediate l0 ≡ Ok f → SpellJmp immediate l0 f
+unfolding jmp_at
+jmp_is immediate l0 f e =
+    let P : Type 0 = SpellJmp immediate l0 f in
+    label_then immediate l0 _ _ e P (λ i label l1 leads t0 e1.
+    let end = end_is i f l1 e1 in
+    subst (SpellJmp immediate l0) end.1 (record { label = label; leads = leads; tokens = t0 _ end.0 }))
+
+-- ---- `a, label`
+
+pub record SpellCall (immediate : List ℕ → Option ℤ) (l0 : List Lexeme) (f : ℕ × ℤ) : Type 0 where
+  pub label : List ℕ
+  pub leads : immediate label ≡ Some f.1
+  pub is_a : IsReg f.0
+  pub tokens : AreTokens l0 (register f.0 ∷ comma ∷ Name label ∷ [])
+
+pub call_read : (immediate : List ℕ → Option ℤ) (l0 : List Lexeme) (f : ℕ × ℤ) → SpellCall immediate l0 f → call_at immediate l0 ≡ Ok f
+unfolding call_at
+call_read immediate l0 f s =
+    register_field f.0 _ l0 _ _ s.is_a s.tokens (λ l1 t1.
+    mark_field 44 _ l1 _ _ t1 (λ l2 t2.
+    label_field immediate s.label f.1 _ l2 _ _ s.leads t2 (λ l3 t3.
+    end_read (f.0, f.1) l3 t3)))
+
+pub call_is : (immediate : List ℕ → Option ℤ) (l0 : List Lexeme) (f : ℕ × ℤ) → call_at immediate l0 ≡ Ok f → SpellCall immediate l0 f
+unfolding call_at
+call_is immediate l0 f e =
+    let P : Type 0 = SpellCall immediate l0 f in
+    register_then l0 _ _ e P (λ a l1 is_a t0 e1.
+    mark_then 44 l1 _ _ e1 P (λ m l2 t1 e2.
+    label_then immediate l2 _ _ e2 P (λ i label l3 leads t2 e3.
+    let end = end_is (a, i) f l3 e3 in
+    subst (SpellCall immediate l0) end.1 (record { label = label; leads = leads; is_a = is_a; tokens = t0 _ (t1 _ (t2 _ end.0)) }))))

@@ -5,7 +5,7 @@ use Rattle.spur_asm.specs.Text.{unit_of, Gives}
 use Rattle.spur_asm.specs.Laws.{ReadsWhatIsSaid}
 use Rattle.spur_asm.specs.declared.fault.AsmFault.{AsmFault}
 use Rattle.spur_asm.specs.declared.fault.AsmFault.TheVariants as faults
-use Rattle.spur_asm.specs.declared.unit.Unit as units
+use Rattle.spur_object.specs.declared.unit.Unit as units
 
 -- a unit that is the answer is the one that the text says
 pub says_if-Ok : (law : ReadsWhatIsSaid) (text : List ℕ) (result : Result units.Unit AsmFault) → Gives result (unit_of text) → IfOk result (λ u. Says text u)

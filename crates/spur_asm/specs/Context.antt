@@ -1,60 +1,142 @@
--- Which statement a line is, by the name that it begins with, and where it may stand.
-use Rattle.std.specs.Prelude.{ℕ, ◌+◌, ◌&&◌, ◌==◌, nat_lt, if◌then◌else◌, List, Option, Some, None, codes}
-use Rattle.std.specs.Option.{option_map}
+-- What stands before a line, the labels of all lines, and which statements and labels may stand where.
+use Rattle.std.specs.Prelude.{ℕ, ◌+◌, ◌-◌, ◌%◌, ◌^◌, ◌≤◌, Bool, not, ◌&&◌, ◌==◌, nat_lt, if◌then◌else◌, List, [], ◌∷◌, take, Option, Some, None, Result, Ok, ℤ}
+use Rattle.std.specs.Int.{w16, cast_signed}
+use Rattle.std.specs.List.{list_any}
+use Rattle.std.specs.Option.{is_some, option_map}
 use Rattle.std.specs.Str.{bytes_eq}
-use Rattle.spur_asm.specs.Fields.{word_at}
+use Rattle.spur_asm.specs.Token.{Token, Name, Mark, is_dotted}
+use Rattle.spur_asm.specs.Lexeme.{Lexeme, lexemes_of}
+use Rattle.spur_asm.specs.Names.{sort_named}
 use Rattle.spur_asm.specs.declared.fault.Kind.{Kind}
-use Rattle.spur_asm.specs.declared.fault.Kind.TheVariants.{BadToken, Limit}
+use Rattle.spur_asm.specs.declared.fault.Kind.TheVariants.{BadToken, Twice, Limit}
+use Rattle.spur_asm.specs.declared.label.Label as labels
 use Rattle.spur_asm.specs.declared.statement.Context.{Context}
-use Rattle.spur_asm.specs.declared.statement.Operation.{Operation}
-use Rattle.spur_asm.specs.declared.statement.Operation.TheVariants as operations
 use Rattle.spur_asm.specs.declared.statement.Sort.{Sort}
-use Rattle.spur_asm.specs.declared.statement.Sort.TheVariants as sorts
+use Rattle.spur_asm.specs.declared.statement.Sort.TheVariants.{Page, Word, Board, Seg, Code}
 
--- the operation with this name
-abbrev pub operation_named : List ℕ → Option Operation
-operation_named name =
-    if bytes_eq name (codes "halt") then Some operations.Halt else
-    (if bytes_eq name (codes "li") then Some operations.Li else
-    (if bytes_eq name (codes "addi") then Some operations.AddI else
-    (if bytes_eq name (codes "ld") then Some operations.Ld else
-    (if bytes_eq name (codes "st") then Some operations.St else None))))
+-- ---- the label of a line
 
--- the sort of the statements with this name
-abbrev pub sort_named : List ℕ → Option Sort
-sort_named name =
-    if bytes_eq name (codes ".page") then Some sorts.Page else
-    (if bytes_eq name (codes ".word") then Some sorts.Word else
-    (if bytes_eq name (codes ".board") then Some sorts.Board else option_map sorts.Code (operation_named name)))
+-- a name without a leading `.`, and `:`
+abbrev pub label_of_two : Result Token Kind → Result Token Kind → Option (List ℕ)
+label_of_two (Ok (Name name)) (Ok (Mark mark)) = if mark == 58 && not (is_dotted name) then Some name else None
+label_of_two one other = None
 
--- the sort of a line, whatever follows its name
-abbrev pub sort_of : List ℕ → Option Sort
-sort_of line = sort_named (word_at line)
+-- the label with which tokens begin, whatever follows
+abbrev pub label_in : List Lexeme → Option (List ℕ)
+label_in [] = None
+label_in (one ∷ []) = None
+label_in (one ∷ other ∷ lexemes) = label_of_two one.token other.token
 
--- before the first line
+-- the tokens behind the label, if there is one
+abbrev pub behind_two : List Lexeme → List Lexeme
+behind_two [] = []
+behind_two (one ∷ []) = []
+behind_two (one ∷ other ∷ lexemes) = lexemes
+
+abbrev pub behind_label : List Lexeme → List Lexeme
+behind_label lexemes = if is_some (label_in lexemes) then behind_two lexemes else lexemes
+
+-- ---- the sort of a line
+
+abbrev pub sort_of_token : Result Token Kind → Option Sort
+sort_of_token (Ok (Name name)) = sort_named name
+sort_of_token other = None
+
+-- the sort of the statement with which tokens begin, whatever follows its name
+abbrev pub sort_in : List Lexeme → Option Sort
+sort_in [] = None
+sort_in (one ∷ lexemes) = sort_of_token one.token
+
+-- ---- what stands before a line
+
 abbrev pub first_context : Context
-first_context = record { pages = 0; words = 0; boards = 0; codes = 0 }
+first_context = record { pages = 0; words = 0; boards = 0; segs = 0; codes = 0; labels = 0 }
 
--- behind a statement of this sort; a board begins with no instruction
-abbrev pub context_after : Context → Option Sort → Context
-context_after c None = c
-context_after c (Some sorts.Page) = record c { pages = c.pages + 1 }
-context_after c (Some sorts.Word) = record c { words = c.words + 1 }
-context_after c (Some sorts.Board) = record c { boards = c.boards + 1; codes = 0 }
-context_after c (Some (sorts.Code o)) = record c { codes = c.codes + 1 }
+-- behind a label
+abbrev pub with_label : Option (List ℕ) → Context → Context
+with_label None c = c
+with_label (Some name) c = record c { labels = c.labels + 1 }
+
+-- behind a statement of this sort; a board begins with no instruction and no `.seg`
+abbrev pub with_sort : Option Sort → Context → Context
+with_sort None c = c
+with_sort (Some Page) c = record c { pages = c.pages + 1 }
+with_sort (Some Word) c = record c { words = c.words + 1 }
+with_sort (Some Board) c = record c { boards = c.boards + 1; segs = 0; codes = 0 }
+with_sort (Some Seg) c = record c { segs = c.segs + 1 }
+with_sort (Some (Code operation)) c = record c { codes = c.codes + 1 }
+
+abbrev pub next_in : Context → List Lexeme → Context
+next_in c lexemes = with_sort (sort_in (behind_label lexemes)) (with_label (label_in lexemes) c)
 
 -- the context of the line behind this one
 abbrev pub next_of : Context → List ℕ → Context
-next_of c line = context_after c (sort_of line)
+next_of c line = next_in c (lexemes_of line)
+
+-- each count is at most k
+pub record IsWithin (k : ℕ) (c : Context) : Type 0 where
+  pub pages : c.pages ≤ k
+  pub words : c.words ≤ k
+  pub boards : c.boards ≤ k
+  pub segs : c.segs ≤ k
+  pub codes : c.codes ≤ k
+  pub labels : c.labels ≤ k
+
+-- ---- the labels of all lines
+
+-- a label: the number of its board, its name, and the number of the board's instructions before it
+pub record Placed : Type 0 where
+  pub board : ℕ
+  pub name : List ℕ
+  pub place : ℕ
+
+abbrev pub placed_of : labels.Label → Placed
+placed_of l = record { board = l.board; name = l.name.now; place = l.place }
+
+abbrev pub onto_labels : Context → Option (List ℕ) → List Placed → List Placed
+onto_labels c None all = all
+onto_labels c (Some name) all = record { board = c.boards; name = name; place = c.codes } ∷ all
+
+-- the labels of lines, of which the first has this context
+abbrev pub labels_from : Context → List (List ℕ) → List Placed
+labels_from c [] = []
+labels_from c (line ∷ lines) = onto_labels c (label_in (lexemes_of line)) (labels_from (next_of c line) lines)
+
+-- whether a label is this board's and has this name
+abbrev pub is_label : ℕ → List ℕ → Placed → Bool
+is_label board name l = l.board == board && bytes_eq l.name name
+
+-- whether one of these labels is this board's and has this name
+abbrev pub has_label : List Placed → ℕ → List ℕ → Bool
+has_label all board name = list_any (is_label board name) all
+
+-- the place of the first label of this board with this name
+abbrev pub place_named : List Placed → ℕ → List ℕ → Option ℕ
+place_named [] board name = None
+place_named (l ∷ all) board name = if is_label board name l then Some l.place else place_named all board name
+
+-- from the place behind this one to another, as a number of 16 bits with a sign
+abbrev pub distance : ℕ → ℕ → ℤ
+distance here there = cast_signed w16 ((there + (2 ^ 16 - (here + 1) % 2 ^ 16)) % 2 ^ 16)
+
+-- the immediate of an instruction of this line that goes to the label of this name
+abbrev pub immediate_of : List Placed → Context → List ℕ → Option ℤ
+immediate_of all c name = option_map (distance c.codes) (place_named all c.boards name)
+
+-- ---- what may stand where
+
+-- the fault of a label of this line: it stands before all boards, or one of the board's labels before has its name
+abbrev pub label_fault : List Placed → Context → List ℕ → Option Kind
+label_fault all c name = if c.boards == 0 then Some BadToken else (if has_label (take c.labels all) c.boards name then Some Twice else None)
 
 -- the fault of one more statement where there may be this many
 abbrev pub limit_fault : ℕ → ℕ → Option Kind
 limit_fault most before = if nat_lt before most then None else Some Limit
 
--- the fault of a statement of this sort that stands here, if it may not stand here: first come pages, then words, then one board, then its
--- instructions
+-- the fault of a statement of this sort that stands here, if it may not stand here
 abbrev pub misplacement : Context → Sort → Option Kind
-misplacement c sorts.Page = if c.words == 0 && c.boards == 0 then limit_fault 16 c.pages else Some BadToken
-misplacement c sorts.Word = if c.boards == 0 then limit_fault 4096 c.words else Some BadToken
-misplacement c sorts.Board = limit_fault 1 c.boards
-misplacement c (sorts.Code o) = if c.boards == 0 then Some BadToken else limit_fault 4096 c.codes
+misplacement c Page = limit_fault 2048 c.pages
+misplacement c Word = limit_fault 65536 c.words
+misplacement c Board = limit_fault 12 c.boards
+misplacement c Seg = if c.boards == 0 then Some BadToken else (if c.segs == 0 then None else Some Twice)
+misplacement c (Code operation) = if c.boards == 0 then Some BadToken else limit_fault 4096 c.codes

@@ -1,33 +1,35 @@
 //! Whole texts.
-ghost use Rattle.std.specs.Prelude.{◌≡◌, Err, IfOk};
+ghost use Rattle.std.specs.Prelude.{◌≡◌, Err, IfOk, map};
+ghost use Rattle.spur_asm.specs.Context.{first_context, placed_of};
+ghost use Rattle.spur_asm.specs.Draft.{empty_draft};
 ghost use Rattle.spur_asm.specs.Says.{Says};
-ghost use Rattle.spur_asm.specs.declared.unit.Unit as units;
-ghost use Rattle.spur_asm.specs.Context.{first_context};
-ghost use Rattle.spur_asm.specs.Text.{draft_from, empty_draft, lines_of, unit_of, GivesDraft, Gives};
+ghost use Rattle.spur_object.specs.declared.unit.Unit as units;
+ghost use Rattle.spur_asm.specs.Text.{draft_from, lines_of, unit_of, GivesDraft, Gives};
 
 use crate::draft::Draft;
 use crate::fault::AsmFault;
+use crate::label::Label;
 use crate::statement::Context;
-use crate::unit::{BoardText, Unit};
-use crate::{lines, pages};
-use spur_list::Items;
+use crate::{line, lines, loadable};
+use spur_object::Unit;
 use std::alloc::Global;
 
-/// What the lines of a text say, in their order. `NotYet` where a line does not fit or there is no board.
-fn draft_of(alloc: Global, text: &[u8]) -> Result<Draft, AsmFault>
-    ensures { GivesDraft result (draft_from first_context empty_draft (lines_of text.now)) }
+/// What the lines of a text say, in their order, in the light of the labels of them all. `NotYet` where a line does not
+/// fit or there is no board.
+fn draft_of(alloc: Global, labels: &[Label<'_>], text: &[u8]) -> Result<Draft, AsmFault>
+    ensures { GivesDraft result (draft_from (map placed_of labels.now) first_context empty_draft (lines_of text.now)) }
 {
     let mut draft = Draft::new(alloc);
     let mut context = Context::first();
     let mut rest = text;
     while !rest.is_empty() {
-        let (line, behind) = lines::split_line(rest);
-        let (statement, next) = lines::statement(context, line)?;
-        draft.add(statement)?;
+        let (first, behind) = lines::split_line(rest);
+        let (statement, next) = line::step(labels, context, first)?;
+        draft.add_line(alloc, statement)?;
         context = next;
         rest = behind;
     }
-    if context.boards == 0 {
+    if draft.begun.is_none() {
         return Err(AsmFault::NotYet);
     }
     Ok(draft)
@@ -38,31 +40,23 @@ fn draft_of(alloc: Global, text: &[u8]) -> Result<Draft, AsmFault>
 fn read(alloc: Global, text: &[u8]) -> Result<Unit, AsmFault>
     ensures exact { Gives result (unit_of text.now) }
 {
-    if !text.ends_with(b"\n") {
+    let labels = lines::labels(alloc, text)?;
+    let draft = draft_of(alloc, labels.as_slice(), text)?;
+    let unit = draft.into_unit()?;
+    if !loadable::is_loadable(&unit) {
         return Err(AsmFault::NotYet);
     }
-    let draft = draft_of(alloc, text)?;
-    if !pages::are_declared(draft.pages.as_slice(), draft.words.as_slice()) {
-        return Err(AsmFault::NotYet);
-    }
-    let mut boards = Items::new(alloc);
-    boards.push(BoardText {
-        segs: [0, 1, 2, 3],
-        code: draft.code,
-    })?;
-    Ok(Unit {
-        boards,
-        pages: draft.pages,
-        words: draft.words,
-    })
+    Ok(unit)
 }
 
-/// Assembles a program's text, in this project's own first form: lines that each end with a line feed, at most 16
-/// `.page S P W` (segment, page of it, protection), then at most 4096 `.word S O V` (segment, byte offset in it, value),
-/// then one `.board`, then at most 4096 instructions. No page is declared twice, none is one of segment 255, and each
-/// word lies in a declared page. The unit has the one board, with segment registers 0, 1, 2 and 3.
+/// Assembles a program's text, in this project's own form. Each line has an optional label, which is a name without a
+/// leading `.` and `:`, and an optional statement: one of the 25 instructions, or `.page S P W` (segment, page of it,
+/// protection), `.word S O V` (segment, byte offset in it, value), `.board` or `.seg A B C D` (the board's segment
+/// registers, which are 0, 1, 2 and 3 without it). A `;` begins a comment. There are 1 to 12 boards, at most 4096
+/// instructions a board, and at most 65536 words. So far there are at most 16 pages, none twice and none of segment
+/// 255, which no board names either, and each word lies in a declared page.
 ///
-/// `NotYet` where the text is not of this form, `NoMemory` where memory is wanting.
+/// `NotYet` where the text has a fault or goes past what is understood so far, `NoMemory` where memory is wanting.
 pub fn assemble(alloc: Global, text: &[u8]) -> Result<Unit, AsmFault>
     ensures ok { IfOk result (λ unit. Says text.now unit) }
     ensures not_yet { result ≡ Err AsmFault.NotYet → (unit : units.Unit) → Says text.now unit → ⊥ }

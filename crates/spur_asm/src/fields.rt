@@ -1,125 +1,161 @@
-//! The fields of each statement, which stand behind its name.
-ghost use Rattle.std.specs.Prelude.{◌≡◌};
-ghost use Rattle.spur_asm.specs.Line.{li_at, addi_at, access_at, page_at, word_text_at, instr_at, fields_at};
+//! The fields of a statement. Each reader takes one token, or says in which way the line does not fit: by the token's
+//! own fault, as `BadToken` where the line ends, and last as `BadToken` where a blank is wanting before the token.
+ghost use Rattle.std.specs.Prelude.{◌≡◌, ◌≤ℤ◌, ◌≤◌, IfOk, List, Ok, Result, ℤ, pos, map};
+ghost use Rattle.spur_asm.specs.Context.{immediate_of, placed_of};
+ghost use Rattle.spur_asm.specs.Lexeme as specs;
+ghost use Rattle.spur_asm.specs.Lexeme.{lexeme_of, token_in};
+ghost use Rattle.spur_asm.specs.Fields.{end_at, immediate_at, label_at, label_in, mark_at, misfit, natural_at, number_at, offset_at, protection_at, register_at, taken, value_of, Passes, Reads};
 
 use crate::cursor::Cursor;
-use crate::fault::Misfit;
-use crate::instr::Instr;
-use crate::number::low_word;
-use crate::reg::Reg;
-use crate::statement::{Operation, Sort, Statement};
-use crate::unit::{PageText, WordText};
-use spur_addr::GlobalAddr;
+use crate::fault::{Kind, Misfit};
+use crate::label::{self, Label};
+use crate::operand;
+use crate::statement::Context;
+use crate::token::{Lexeme, Token};
+use spur_addr::Protection;
+use spur_isa::Reg;
 
-/// The fields ` S P W` of `.page`: a segment from 0 to 255, a page of it from 0 to 262143, and a protection.
-#[tactic(auto, unfolding(crate::specs::Line::page_at))]
-fn page(line: &mut Cursor) -> Result<PageText, Misfit>
-    ensures { result ≡ page_at line.old }
-{
-    line.mark(b' ')?;
-    let segment = line.natural(255)?;
-    line.mark(b' ')?;
-    let place = line.natural(262143)?;
-    line.mark(b' ')?;
-    let prot = line.protection()?;
-    line.end(PageText {
-        page: segment * (1 << 18) + place,
-        prot,
-    })
-}
-
-/// The fields ` S O V` of `.word`: a segment from 0 to 255, an offset in it, and a value from -2147483648 to
-/// 4294967295, which the word holds modulo 2^32.
-#[tactic(auto, unfolding(crate::specs::Line::word_text_at))]
-fn word(line: &mut Cursor) -> Result<WordText, Misfit>
-    ensures { result ≡ word_text_at line.old }
-{
-    line.mark(b' ')?;
-    let segment = line.natural(255)?;
-    line.mark(b' ')?;
-    let offset = line.offset()?;
-    line.mark(b' ')?;
-    let value = line.number(-2147483648, 4294967295)?;
-    let number = u64::from(segment) * (1 << 30) + u64::from(offset);
-    let at = GlobalAddr::of(number).unwrap();
-    line.end(WordText {
-        at,
-        value: low_word(value),
-    })
-}
-
-/// The operands ` a, i` of `li`.
-#[tactic(auto, unfolding(crate::specs::Line::li_at))]
-fn li(line: &mut Cursor) -> Result<Instr, Misfit>
-    ensures { result ≡ li_at line.old }
-{
-    line.mark(b' ')?;
-    let a = line.register()?;
-    line.mark(b',')?;
-    line.mark(b' ')?;
-    let i = line.immediate()?;
-    line.end(Instr::Li { a, i })
-}
-
-/// The operands ` a, b, i` of `addi`.
-#[tactic(auto, unfolding(crate::specs::Line::addi_at))]
-fn addi(line: &mut Cursor) -> Result<Instr, Misfit>
-    ensures { result ≡ addi_at line.old }
-{
-    line.mark(b' ')?;
-    let a = line.register()?;
-    line.mark(b',')?;
-    line.mark(b' ')?;
-    let b = line.register()?;
-    line.mark(b',')?;
-    line.mark(b' ')?;
-    let i = line.immediate()?;
-    line.end(Instr::AddI { a, b, i })
-}
-
-/// The operands ` a, i(b)` of `ld` and `st`, as a, b and i.
-#[tactic(auto, unfolding(crate::specs::Line::access_at))]
-fn access(line: &mut Cursor) -> Result<(Reg, Reg, i16), Misfit>
-    ensures { result ≡ access_at line.old }
-{
-    line.mark(b' ')?;
-    let a = line.register()?;
-    line.mark(b',')?;
-    line.mark(b' ')?;
-    let i = line.immediate()?;
-    line.mark(b'(')?;
-    let b = line.register()?;
-    line.mark(b')')?;
-    line.end((a, b, i))
-}
-
-/// The operands of an operation, up to the end of the line.
-fn instr(operation: Operation, line: &mut Cursor) -> Result<Instr, Misfit>
-    ensures { result ≡ instr_at operation line.old }
-{
-    match operation {
-        Operation::Halt => line.end(Instr::Halt),
-        Operation::Li => li(line),
-        Operation::AddI => addi(line),
-        Operation::Ld => {
-            let (a, b, i) = access(line)?;
-            Ok(Instr::Ld { a, b, i })
+impl Lexeme<'_> {
+    /// The fault of this token.
+    pub fn misfit(&self, kind: Kind) -> Misfit
+        ensures { result ≡ misfit kind self.now.left }
+    {
+        Misfit {
+            kind,
+            left: self.left,
         }
-        Operation::St => {
-            let (a, b, i) = access(line)?;
-            Ok(Instr::St { a, b, i })
+    }
+
+    /// The value that this token stands for. A fault of its own comes first, and then that it is glued to the token
+    /// before.
+    fn taken<T: Drop>(&self, value: Result<T, Kind>) -> Result<T, Misfit>
+        ensures reads { (rest : List specs.Lexeme) → Reads result rest (taken (lexeme_of self.now) value rest) }
+        ensures same { IfOk result (λ v. value ≡ Ok v) }
+    {
+        match value {
+            Err(kind) => Err(self.misfit(kind)),
+            Ok(_) if self.glued => Err(self.misfit(Kind::BadToken)),
+            Ok(value) => Ok(value),
         }
     }
 }
 
-/// The statement of this sort, of the fields that stand behind its name up to the end of the line.
-pub fn statement(sort: Sort, line: &mut Cursor) -> Result<Statement, Misfit>
-    ensures { result ≡ fields_at sort line.old }
+/// The fault of a line that ends too early.
+const END: Misfit = Misfit {
+    kind: Kind::BadToken,
+    left: 0,
+};
+
+impl<'a> Cursor<'a> {
+    /// Takes the mark `c`.
+    pub fn mark(&mut self, c: u8) -> Result<(), Misfit>
+        ensures { Passes c result self.new (mark_at c self.old) }
+    {
+        let Some(lexeme) = self.next() else {
+            return Err(END);
+        };
+        lexeme.taken(operand::mark(lexeme.token, c))?;
+        Ok(())
+    }
+
+    /// Takes a register, `r0` to `r15`. `UnknownName` where the name here is none.
+    pub fn register(&mut self) -> Result<Reg, Misfit>
+        ensures { Reads result self.new (register_at self.old) }
+    {
+        let Some(lexeme) = self.next() else {
+            return Err(END);
+        };
+        lexeme.taken(operand::register(lexeme.token))
+    }
+
+    /// Takes a protection, `none`, `ro` or `rw`. `UnknownName` where the name here is none.
+    pub fn protection(&mut self) -> Result<Protection, Misfit>
+        ensures { Reads result self.new (protection_at self.old) }
+    {
+        let Some(lexeme) = self.next() else {
+            return Err(END);
+        };
+        lexeme.taken(operand::protection(lexeme.token))
+    }
+
+    /// Takes a number from `low` to `high`. `BadNumber` where the number here is none of these.
+    pub fn number(&mut self, low: i64, high: i64) -> Result<i64, Misfit>
+        ensures value { Reads result self.new (number_at low high self.old) }
+        ensures range { IfOk result (λ z. (low ≤ℤ z) × (z ≤ℤ high)) }
+    {
+        let Some(lexeme) = self.next() else {
+            return Err(END);
+        };
+        lexeme.taken(operand::number(lexeme.token, low, high))
+    }
+
+    /// Takes an immediate, a number from -32768 to 32767. `BadNumber` where the number here is none of these.
+    pub fn immediate(&mut self) -> Result<i16, Misfit>
+        ensures { Reads result self.new (immediate_at self.old) }
+    {
+        let i = self.number(-32768, 32767)?;
+        Ok(i as i16)
+    }
+
+    /// Takes a number from 0 to `high`. `BadNumber` where the number here is none of these.
+    pub fn natural(&mut self, high: u32) -> Result<u32, Misfit>
+        ensures value { Reads result self.new (natural_at high self.old) }
+        ensures range { IfOk result (λ n. n ≤ high) }
+    {
+        let Some(lexeme) = self.next() else {
+            return Err(END);
+        };
+        lexeme.taken(operand::natural(lexeme.token, high))
+    }
+
+    /// Takes the offset of a word in its segment, in bytes: a multiple of 4 from 0 to 1073741820. `BadNumber` where the
+    /// number here is none of these.
+    pub fn offset(&mut self) -> Result<u32, Misfit>
+        ensures value { Reads result self.new (offset_at self.old) }
+        ensures range { IfOk result (λ n. n ≤ 1073741820) }
+    {
+        let Some(lexeme) = self.next() else {
+            return Err(END);
+        };
+        lexeme.taken(operand::offset(lexeme.token, 1073741820))
+    }
+
+    /// Takes the name of a label of the board, as the immediate that leads from the instruction of this line to it.
+    /// `NoLabel` where the board has none of this name.
+    pub fn label(&mut self, labels: &[Label<'_>], context: Context) -> Result<i16, Misfit>
+        ensures { Reads result self.new (label_at (immediate_of (map placed_of labels.now) context) self.old) }
+    {
+        let Some(lexeme) = self.next() else {
+            return Err(END);
+        };
+        lexeme.taken(led_to(lexeme.token, labels, context))
+    }
+
+    /// Gives the value back at the end of the line. `BadToken` where a token is left, or its own fault.
+    pub fn end<T: Drop>(&mut self, value: T) -> Result<T, Misfit>
+        ensures { result ≡ end_at value self.old }
+    {
+        match self.next() {
+            None => Ok(value),
+            Some(lexeme) => Err(lexeme.misfit(match lexeme.token {
+                Err(kind) => kind,
+                Ok(_) => Kind::BadToken,
+            })),
+        }
+    }
+}
+
+/// The immediate that leads from the instruction of this line to the label that the token names. `BadToken` where it
+/// is no name, `NoLabel` where the board has no label of this name.
+fn led_to(
+    token: Result<Token<'_>, Kind>,
+    labels: &[Label<'_>],
+    context: Context,
+) -> Result<i16, Kind>
+    ensures { result ≡ value_of (token_in token.entry) (label_in (immediate_of (map placed_of labels.now) context)) }
 {
-    match sort {
-        Sort::Page => Ok(Statement::Page(page(line)?)),
-        Sort::Word => Ok(Statement::Word(word(line)?)),
-        Sort::Board => line.end(Statement::Board),
-        Sort::Code(operation) => Ok(Statement::Code(instr(operation, line)?)),
+    match token? {
+        Token::Name(name) => context.immediate(labels, name).ok_or(Kind::NoLabel),
+        _ => Err(Kind::BadToken),
     }
 }

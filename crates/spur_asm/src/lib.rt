@@ -3,24 +3,26 @@
 #![tactic(auto)]
 
 mod assembler;
+mod bytes;
+mod context;
 mod cursor;
 mod draft;
 mod fault;
 mod fields;
-mod instr;
-mod laws;
+mod front;
+mod head;
+mod label;
+pub mod laws;
+mod line;
 mod lines;
+mod loadable;
 mod number;
-mod pages;
-mod reg;
+mod operand;
 mod statement;
+mod statements;
 #[cfg(test)]
 mod tests;
-mod unit;
+mod token;
 
 pub use assembler::assemble;
 pub use fault::AsmFault;
-pub use instr::Instr;
-pub use laws::{reads_what_is_said, says_a_unit, says_once};
-pub use reg::Reg;
-pub use unit::{BoardText, PageText, Unit, WordText};

@@ -1,13 +1,15 @@
-//! The lines of a text, and the statement of each.
-ghost use Rattle.std.specs.Prelude.{◌≡◌};
+//! The lines of a text, and the labels of them all.
+ghost use Rattle.std.specs.Prelude.{◌≡◌, ◌++◌, [], map, IfOk, OnOk};
 ghost use Rattle.std.specs.List.{position, before_first, after_first};
-ghost use Rattle.spur_asm.specs.Line.{step_at};
-ghost use Rattle.spur_asm.specs.Text.{is_feed};
+ghost use Rattle.std.specs.Option.{option_copied};
+ghost use Rattle.spur_asm.specs.Bytes.{is_feed};
+ghost use Rattle.spur_asm.specs.Context.{first_context, labels_from, onto_labels, placed_of};
+ghost use Rattle.spur_asm.specs.Text.{lines_of};
 
-use crate::cursor::Cursor;
-use crate::fault::{Kind, Misfit};
-use crate::fields;
-use crate::statement::{Context, Sort, Statement};
+use crate::head;
+use crate::label::Label;
+use crate::statement::Context;
+use std::alloc::{AllocError, Global};
 
 /// The place of the first line feed. `None` where there is none.
 fn first_feed(text: &[u8]) -> Option<usize>
@@ -28,20 +30,37 @@ pub fn split_line(text: &[u8]) -> (&[u8], &[u8])
     }
 }
 
-/// The statement of a line that stands in this context, and the context of the line behind it. A misplaced statement
-/// and an unknown one have their fault at the line's first byte.
-#[tactic(auto, unfolding(crate::specs::Line::statement_at))]
-pub fn statement(context: Context, line: &[u8]) -> Result<(Statement, Context), Misfit>
-    ensures { result ≡ step_at context line.now }
+/// Puts the label of a line that stands in this context behind the others, if the line has one.
+fn note<'a>(
+    labels: &mut Vec<Label<'a>>,
+    context: Context,
+    name: Option<&'a [u8]>,
+) -> Result<(), AllocError>
+    ensures { OnOk result (map placed_of labels.new.items ≡ map placed_of labels.old.items ++ onto_labels context (option_copied name.entry) []) }
 {
-    let start = Cursor::new(line);
-    let mut cursor = Cursor::new(line);
-    let Some(sort) = Sort::named(cursor.word()) else {
-        return Err(start.misfit(Kind::UnknownName));
-    };
-    if let Some(kind) = context.misplacement(sort) {
-        return Err(start.misfit(kind));
+    if let Some(name) = name {
+        labels.push(Label {
+            board: context.boards,
+            name,
+            place: context.codes,
+        })?;
     }
-    let statement = fields::statement(sort, &mut cursor)?;
-    Ok((statement, context.after(sort)))
+    Ok(())
+}
+
+/// The labels of all lines of a text, in their order.
+pub fn labels<'a>(alloc: Global, text: &'a [u8]) -> Result<Vec<Label<'a>>, AllocError>
+    ensures { IfOk result (λ labels. map placed_of labels.items ≡ labels_from first_context (lines_of text.now)) }
+{
+    let mut labels = Vec::new(alloc);
+    let mut context = Context::first();
+    let mut rest = text;
+    while !rest.is_empty() {
+        let (line, behind) = split_line(rest);
+        let (label, sort) = head::head(line);
+        note(&mut labels, context, label)?;
+        context = context.after(label, sort);
+        rest = behind;
+    }
+    Ok(labels)
 }

@@ -3,10 +3,10 @@ use Rattle.std.proofs.Common.{◌≡◌, ◌∙◌, None, Bool, true, if◌then�
 use Rattle.spur_flat.specs.declared.access.AccessKind.{AccessKind}
 use Rattle.spur_flat.specs.declared.access.AccessKind.TheVariants as access
 use Rattle.spur_flat.specs.declared.access.FaultKind.{FaultKind}
-use Rattle.spur_flat.specs.declared.entry.Entry.TheVariants.{Load, Store, Fault}
+use Rattle.spur_flat.specs.declared.entry.Entry.TheVariants.{Load, Store, Tas, Fault}
 use Rattle.spur_flat.specs.Access.{is_align, may, may_with, miss_of}
 use Rattle.spur_flat.specs.Table.{data_word, walk_of}
-use Rattle.spur_flat.specs.Laws.{IsReady, ReadyIsDone, MissIsAllowed, MissIsNeverRefused, RefusedUnlessAllowed}
+use Rattle.spur_flat.specs.Laws.{DoneMayBeRead, IsReady, ReadyIsDone, MissIsAllowed, MissIsNeverRefused, RefusedUnlessAllowed}
 
 pub refused-unless-allowed : RefusedUnlessAllowed
 refused-unless-allowed F entry = search rules
@@ -26,7 +26,15 @@ miss-is-never-refused F board g = record {
   fault = λ access kind is. (refused-unless-allowed F (Fault board kind access g)).1 (miss_may (walk_of F g) access g _ is);
   load = λ is. (refused-unless-allowed F (Load board g (data_word F g))).1 (miss_may (walk_of F g) access.Load g _ is, refl);
   store = λ value is. (refused-unless-allowed F (Store board g value)).1 (miss_may (walk_of F g) access.Store g _ is);
+  tas = λ is. (refused-unless-allowed F (Tas board g (data_word F g))).1 (miss_may (walk_of F g) access.Tas g _ is, refl);
 }
+
+-- a load needs no more than any other access
+done_may_load : (entry : Option ℕ) (kind : AccessKind) (g : ℕ) → may entry kind g None ≡ true → may entry access.Load g None ≡ true
+done_may_load entry kind g done = search rules
+
+pub done-may-be-read : DoneMayBeRead
+done-may-be-read F kind g done = done_may_load (walk_of F g) kind g done
 
 -- the answers of a page that needs no fault
 only_done : (entry : ℕ) (access : AccessKind) (answer : Option FaultKind) → IsReady entry access → may_with entry access answer ≡ true → answer ≡ None

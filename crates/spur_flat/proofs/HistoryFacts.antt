@@ -6,7 +6,7 @@ use Rattle.spur_flat.specs.declared.flat.Flat.{Flat}
 use Rattle.spur_flat.specs.declared.access.AccessKind.{AccessKind}
 use Rattle.spur_flat.specs.declared.access.AccessKind.TheVariants as access
 use Rattle.spur_flat.specs.declared.entry.Entry.{Entry}
-use Rattle.spur_flat.specs.declared.entry.Entry.TheVariants.{Load, Store, Fault}
+use Rattle.spur_flat.specs.declared.entry.Entry.TheVariants.{Load, Store, Tas, Fault}
 use Rattle.spur_addr.specs.Address.{is_aligned}
 use Rattle.spur_flat.specs.Access.{may}
 use Rattle.spur_flat.specs.Table.{table_words, walk_of, place_in}
@@ -50,6 +50,8 @@ pub stays-valid : StaysValid
 stays-valid F (Load board at value) ok small allowed = ok
 stays-valid F (Store board at value) ok small allowed =
     valid-with_word F _ (place_in (walk_of F at) at) value ok (place_past F access.Store at (walk_of F at) ok small refl allowed) refl
+stays-valid F (Tas board at old) ok small allowed =
+    valid-with_word F _ (place_in (walk_of F at) at) 1 ok (place_past F access.Tas at (walk_of F at) ok small refl allowed.0) refl
 stays-valid F (Fault board kind access at) ok small allowed = ok
 
 pub own_entries-append : OwnInPieces

@@ -6,16 +6,17 @@ use Rattle.spur_addr.specs.PageEntry.{is_valid, is_referenced, is_dirty, is_on_s
 use Rattle.spur_addr.specs.declared.page_entry.Protection.{Protection as Allowance}
 use Rattle.spur_addr.specs.declared.page_entry.Protection.TheVariants.{Nothing, ReadOnly, ReadWrite}
 use Rattle.spur_flat.specs.declared.access.AccessKind.{AccessKind}
-use Rattle.spur_flat.specs.declared.access.AccessKind.TheVariants.{Load, Store}
+use Rattle.spur_flat.specs.declared.access.AccessKind.TheVariants.{Load, Store, Tas}
 use Rattle.spur_flat.specs.declared.access.FaultKind.{FaultKind}
 use Rattle.spur_flat.specs.declared.access.FaultKind.TheVariants.{Align, Unmapped, Missing, Leaving, Protection, Reference, Dirty}
 
--- whether an access is a write
+-- whether an access is a write: a store or a test-and-set
 abbrev pub is_write : AccessKind → Bool
 is_write Load = false
 is_write Store = true
+is_write Tas = true
 
--- whether a protection allows an access: the first none, the second loads, the third all
+-- whether a protection allows an access: the first none, the second those that are no write, the third all
 abbrev pub grants : Allowance → AccessKind → Bool
 grants Nothing access = false
 grants ReadOnly access = not (is_write access)

@@ -2,7 +2,7 @@
 use Rattle.std.specs.Prelude.{ℕ, ◌≡◌, ⊤, ◌==◌, true, Bool, List, [], ◌∷◌, Some, None, slice_set, filter}
 use Rattle.spur_flat.specs.declared.flat.Flat.{Flat}
 use Rattle.spur_flat.specs.declared.entry.Entry.{Entry}
-use Rattle.spur_flat.specs.declared.entry.Entry.TheVariants.{Load, Store, Fault}
+use Rattle.spur_flat.specs.declared.entry.Entry.TheVariants.{Load, Store, Tas, Fault}
 use Rattle.spur_flat.specs.declared.access.AccessKind.TheVariants as access
 use Rattle.spur_flat.specs.Access.{may}
 use Rattle.spur_flat.specs.Table.{walk_of, place_of, data_word}
@@ -11,11 +11,12 @@ use Rattle.spur_flat.specs.Table.{walk_of, place_of, data_word}
 abbrev pub with_word : Flat → ℕ → ℕ → Flat
 with_word F place value = record F { words = slice_set F.words place value }
 
--- the flat state after an entry: a store puts its value in the place of its word, and nothing else
--- changes anything
+-- the flat state after an entry: a store puts its value in the place of its word, a test-and-set puts
+-- 1 there, and nothing else changes anything
 abbrev pub on : Flat → Entry → Flat
 on F (Load board at value) = F
 on F (Store board at value) = with_word F (place_of F at) value
+on F (Tas board at old) = with_word F (place_of F at) 1
 on F (Fault board kind access at) = F
 
 -- the flat state after a history
@@ -23,11 +24,12 @@ abbrev pub flat_after : Flat → List Entry → Flat
 flat_after F [] = F
 flat_after F (entry ∷ rest) = flat_after (on F entry) rest
 
--- an entry is allowed in a flat state: an access that is done may be done, and a load read the data
--- word; a fault may answer its access
+-- an entry is allowed in a flat state: an access that is done may be done, and what a load or a
+-- test-and-set read is the data word; a fault may answer its access
 abbrev pub IsAllowed : Flat → Entry → Type 0
 IsAllowed F (Load board at value) = (may (walk_of F at) access.Load at None ≡ true) × (value ≡ data_word F at)
 IsAllowed F (Store board at value) = may (walk_of F at) access.Store at None ≡ true
+IsAllowed F (Tas board at old) = (may (walk_of F at) access.Tas at None ≡ true) × (old ≡ data_word F at)
 IsAllowed F (Fault board kind access at) = may (walk_of F at) access at (Some kind) ≡ true
 
 -- a legal history: each entry is allowed in the flat state after the entries before it
@@ -39,6 +41,7 @@ IsLegal F (entry ∷ rest) = IsAllowed F entry × IsLegal (on F entry) rest
 abbrev pub is_own : ℕ → Entry → Bool
 is_own b (Load board at value) = board == b
 is_own b (Store board at value) = board == b
+is_own b (Tas board at old) = board == b
 is_own b (Fault board kind access at) = board == b
 
 -- a board's own entries, in the history's order

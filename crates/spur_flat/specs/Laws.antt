@@ -5,7 +5,7 @@ use Rattle.spur_flat.specs.declared.access.AccessKind.{AccessKind}
 use Rattle.spur_flat.specs.declared.access.AccessKind.TheVariants as access
 use Rattle.spur_flat.specs.declared.access.FaultKind.{FaultKind}
 use Rattle.spur_flat.specs.declared.entry.Entry.{Entry}
-use Rattle.spur_flat.specs.declared.entry.Entry.TheVariants.{Load, Store, Fault}
+use Rattle.spur_flat.specs.declared.entry.Entry.TheVariants.{Load, Store, Tas, Fault}
 use Rattle.spur_addr.specs.Address.{is_aligned, page_of}
 use Rattle.spur_addr.specs.PageEntry.{is_valid, is_referenced, is_dirty, is_leaving}
 use Rattle.spur_flat.specs.Access.{allows, is_write, may, miss_of}
@@ -27,14 +27,19 @@ abbrev pub MissIsAllowed : Type 0
 MissIsAllowed = (F : Flat) (access : AccessKind) (g : ℕ) → may (walk_of F g) access g (miss_of (walk_of F g) access g) ≡ true
 
 -- so the entry that answers an access by its miss answer is never refused: the fault, the load of the
--- word that stands in memory, and the store of any value
+-- word that stands in memory, the store of any value, and the test-and-set that read the word
 pub record MissIsNotRefused (F : Flat) (board g : ℕ) : Type 0 where
   pub fault : (access : AccessKind) (kind : FaultKind) → miss_of (walk_of F g) access g ≡ Some kind → refusal_of F (Fault board kind access g) ≡ None
   pub load : miss_of (walk_of F g) access.Load g ≡ None → refusal_of F (Load board g (data_word F g)) ≡ None
   pub store : (value : ℕ) → miss_of (walk_of F g) access.Store g ≡ None → refusal_of F (Store board g value) ≡ None
+  pub tas : miss_of (walk_of F g) access.Tas g ≡ None → refusal_of F (Tas board g (data_word F g)) ≡ None
 
 abbrev pub MissIsNeverRefused : Type 0
 MissIsNeverRefused = (F : Flat) (board g : ℕ) → MissIsNotRefused F board g
+
+-- where an access may be done, a load may be done too
+abbrev pub DoneMayBeRead : Type 0
+DoneMayBeRead = (F : Flat) (kind : AccessKind) (g : ℕ) → may (walk_of F g) kind g None ≡ true → may (walk_of F g) access.Load g None ≡ true
 
 -- an entry under which an access needs no fault: valid and referenced, not leaving, the access
 -- allowed, and dirty where it is a write
@@ -54,6 +59,7 @@ ReadyIsDone = (F : Flat) (access : AccessKind) (g entry : ℕ) (answer : Option 
 abbrev pub address_of : Entry → ℕ
 address_of (Load board at value) = at
 address_of (Store board at value) = at
+address_of (Tas board at old) = at
 address_of (Fault board kind access at) = at
 
 -- an allowed entry keeps a flat state valid

@@ -6,7 +6,7 @@ use Rattle.spur_flat.specs.declared.access.AccessKind.TheVariants as access
 use Rattle.spur_flat.specs.declared.access.FaultKind.{FaultKind}
 use Rattle.spur_flat.specs.declared.access.FaultKind.TheVariants.{Align, Unmapped, Missing, Leaving, Protection, Reference, Dirty}
 use Rattle.spur_flat.specs.declared.entry.Entry.{Entry}
-use Rattle.spur_flat.specs.declared.entry.Entry.TheVariants.{Load, Store, Fault}
+use Rattle.spur_flat.specs.declared.entry.Entry.TheVariants.{Load, Store, Tas, Fault}
 use Rattle.spur_flat.specs.declared.illegal.Clause.{Clause}
 use Rattle.spur_flat.specs.declared.illegal.Clause.TheVariants as clause
 use Rattle.spur_flat.specs.declared.illegal.Illegal.{Illegal}
@@ -48,8 +48,9 @@ done_refusal F access g = barred (bar_of (walk_of F g) access g)
 abbrev pub answered : ℕ → ℕ → Option Illegal
 answered word value = if word == value then None else refused clause.Answer word value
 
-abbrev pub load_refusal : Flat → ℕ → ℕ → Option Illegal
-load_refusal F g value = or_else (done_refusal F access.Load g) (answered (data_word F g) value)
+-- an access that reads is refused where it may not be done, and then where it read another value
+abbrev pub read_refusal : Flat → AccessKind → ℕ → ℕ → Option Illegal
+read_refusal F access g value = or_else (done_refusal F access g) (answered (data_word F g) value)
 
 -- a fault is refused where the access may not have it: WANTED is the miss answer, FOUND the fault
 abbrev pub fault_refusal : Option ℕ → AccessKind → ℕ → FaultKind → Option Illegal
@@ -59,8 +60,9 @@ fault_refusal entry access g fault =
 
 -- why an entry is refused in a flat state, by the first rule that it breaks; none where it is allowed
 abbrev pub refusal_of : Flat → Entry → Option Illegal
-refusal_of F (Load board at value) = load_refusal F at value
+refusal_of F (Load board at value) = read_refusal F access.Load at value
 refusal_of F (Store board at value) = done_refusal F access.Store at
+refusal_of F (Tas board at old) = read_refusal F access.Tas at old
 refusal_of F (Fault board kind access at) = fault_refusal (walk_of F at) access at kind
 
 -- the answer of a call that takes an entry, or refuses it

@@ -13,6 +13,8 @@ pub enum AccessKind {
     Load,
     /// Writes the word.
     Store,
+    /// Reads the word and makes it 1, in one step: a test-and-set.
+    Tas,
 }
 
 impl AccessKind {
@@ -20,7 +22,7 @@ impl AccessKind {
     pub fn writes(self) -> bool
         ensures { result ≡ is_write self }
     {
-        matches!(self, AccessKind::Store)
+        matches!(self, AccessKind::Store | AccessKind::Tas)
     }
 }
 
@@ -41,7 +43,7 @@ pub enum FaultKind {
     Protection,
     /// The page's referenced bit is clear, and has to be set first.
     Reference,
-    /// The page's dirty bit is clear, and has to be set before a write.
+    /// The page's dirty bit is clear, and has to be set before a store or a test-and-set.
     Dirty,
 }
 

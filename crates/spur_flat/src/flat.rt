@@ -4,7 +4,7 @@ ghost use Rattle.std.specs.Prelude.{◌≡◌, ◌^◌, ◌<◌, ◌≤◌, true
 ghost use Rattle.spur_flat.specs.Access.{may, miss_of};
 ghost use Rattle.spur_flat.specs.Table.{data_word, place_in, place_of, table_words, walk_of};
 ghost use Rattle.spur_flat.specs.Validity.{IsValidFlat};
-ghost use Rattle.spur_flat.specs.Refusal.{done_refusal, fault_refusal, load_refusal, place_or, refusal_of, result_of};
+ghost use Rattle.spur_flat.specs.Refusal.{done_refusal, fault_refusal, read_refusal, place_or, refusal_of, result_of};
 ghost use Rattle.spur_flat.specs.History.{on, with_word};
 
 use crate::access::{AccessKind, FaultKind, admit, may_fault, miss};
@@ -94,12 +94,14 @@ impl Flat {
 
     /// Takes an entry: makes the change that it makes, or says why it is refused and changes nothing.
     ///
-    /// A load or a store is refused by the rule `Fault` where one of the faults Align, Unmapped,
-    /// Missing, Protection and Dirty applies to it: WANTED is the first of these, FOUND is 0. A load
-    /// is then refused by the rule `Answer` where it read another word than the one that stands in
-    /// memory: WANTED is that word, FOUND the entry's. A fault is refused by the rule `Fault` where
-    /// the access may not have it: WANTED is the miss answer (0 where there is none), FOUND the
-    /// entry's fault.
+    /// A load, a store or a test-and-set is refused by the rule `Fault` where one of the faults Align,
+    /// Unmapped, Missing, Protection and Dirty applies to it: WANTED is the first of these, FOUND is
+    /// 0. A load or a test-and-set is then refused by the rule `Answer` where it read another word
+    /// than the one that stands in memory: WANTED is that word, FOUND the entry's. A fault is refused
+    /// by the rule `Fault` where the access may not have it: WANTED is the miss answer (0 where there
+    /// is none), FOUND the entry's fault.
+    ///
+    /// A store makes the word its value, a test-and-set makes it 1, and other entries change nothing.
     pub fn apply(&mut self, entry: &Entry) -> Result<(), Illegal>
         requires { IsValidFlat self.old }
         ensures exact { result ≡ result_of (refusal_of self.old entry.now) }
@@ -110,6 +112,7 @@ impl Flat {
         match entry {
             Entry::Load { at, value, .. } => self.load(*at, *value),
             Entry::Store { at, value, .. } => self.store(*at, *value),
+            Entry::Tas { at, old, .. } => self.test_and_set(*at, *old),
             Entry::Fault {
                 kind,
                 access,
@@ -122,18 +125,10 @@ impl Flat {
     /// Takes a load.
     fn load(&self, at: GlobalAddr, value: u32) -> Result<(), Illegal>
         requires { IsValidFlat self.now }
-        ensures { result ≡ result_of (load_refusal self.now at value) }
+        ensures { result ≡ result_of (read_refusal self.now AccessKind.Load at value) }
     {
-        let word = self.words.as_slice()[self.place(AccessKind::Load, at)?];
-        if word == value {
-            Ok(())
-        } else {
-            Err(Illegal {
-                clause: Clause::Answer,
-                wanted: word as u64,
-                found: value as u64,
-            })
-        }
+        self.read(AccessKind::Load, at, value)?;
+        Ok(())
     }
 
     /// Takes a store.
@@ -149,6 +144,19 @@ impl Flat {
         Ok(())
     }
 
+    /// Takes a test-and-set.
+    fn test_and_set(&mut self, at: GlobalAddr, old: u32) -> Result<(), Illegal>
+        requires { IsValidFlat self.old }
+        ensures exact { result ≡ result_of (read_refusal self.old AccessKind.Tas at old) }
+        ensures ok { OnOk result (self.new ≡ with_word self.old (place_of self.old at) 1) }
+        ensures err { OnErr result (self.new ≡ self.old) }
+        ensures valid { IsValidFlat self.new }
+    {
+        let place = self.read(AccessKind::Tas, at, old)?;
+        self.words.set(place, 1);
+        Ok(())
+    }
+
     /// Takes a fault of an access.
     fn fault(&self, kind: FaultKind, access: AccessKind, at: GlobalAddr) -> Result<(), Illegal>
         requires { IsValidFlat self.now }
@@ -161,6 +169,26 @@ impl Flat {
                 clause: Clause::Fault,
                 wanted: self.miss(access, at).map_or(0, FaultKind::number),
                 found: kind.number(),
+            })
+        }
+    }
+
+    /// Where the word that an access read stands, or why it may not have read this value there.
+    fn read(&self, access: AccessKind, at: GlobalAddr, value: u32) -> Result<usize, Illegal>
+        requires { IsValidFlat self.now }
+        ensures exact { result ≡ place_or (read_refusal self.now access at value) (place_of self.now at) }
+        ensures data { IfOk result (λ place. table_words self.now.tables ≤ place) }
+        ensures within { IfOk result (λ place. place < length self.now.words) }
+    {
+        let place = self.place(access, at)?;
+        let word = self.words.as_slice()[place];
+        if word == value {
+            Ok(place)
+        } else {
+            Err(Illegal {
+                clause: Clause::Answer,
+                wanted: word as u64,
+                found: value as u64,
             })
         }
     }

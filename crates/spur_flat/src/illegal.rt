@@ -8,7 +8,7 @@ pub enum Clause {
     /// The access may not be answered so: WANTED is the number of an answer that it should have had,
     /// and FOUND that of the entry's, 0 for an access that was done.
     Fault,
-    /// A load read another word: WANTED is the word that stands in memory, and FOUND the entry's.
+    /// A load or a test-and-set read another word: WANTED is the word that stands in memory, and FOUND the entry's.
     Answer,
 }
 

@@ -1,6 +1,6 @@
 //! Laws of the plain machine, each shown by a function that does nothing.
 
-ghost use Rattle.spur_flat.specs.Laws.{AfterInPieces, LegalInPieces, LegalStaysValid, MissIsAllowed, MissIsNeverRefused, OwnInPieces, ReadyIsDone, RefusedUnlessAllowed, StaysValid, WalkFindsEntry};
+ghost use Rattle.spur_flat.specs.Laws.{AfterInPieces, DoneMayBeRead, LegalInPieces, LegalStaysValid, MissIsAllowed, MissIsNeverRefused, OwnInPieces, ReadyIsDone, RefusedUnlessAllowed, StaysValid, WalkFindsEntry};
 
 /// The walk to an address finds the entry of its page, of which validity speaks by the page's number.
 pub fn walk_finds_entry()
@@ -16,6 +16,12 @@ pub fn refused_unless_allowed()
 pub fn miss_is_allowed()
     ensures allowed { MissIsAllowed }
     ensures never_refused { MissIsNeverRefused }
+{}
+
+/// Where an access may be done, a load may be done too: so `Flat::word` gives the word that a
+/// test-and-set reads there.
+pub fn done_may_be_read()
+    ensures { DoneMayBeRead }
 {}
 
 /// Where the page's entry is valid, referenced, not leaving, allows the access and is dirty for a write,

@@ -18,6 +18,6 @@ pub use entry::Entry;
 pub use flat::Flat;
 pub use illegal::{Clause, Illegal};
 pub use laws::{
-    history_in_pieces, miss_is_allowed, ready_is_done, refused_unless_allowed, stays_valid,
-    walk_finds_entry,
+    done_may_be_read, history_in_pieces, miss_is_allowed, ready_is_done, refused_unless_allowed,
+    stays_valid, walk_finds_entry,
 };

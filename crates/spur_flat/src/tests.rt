@@ -69,6 +69,14 @@ fn store(place: u32, value: u32) -> Entry {
     }
 }
 
+fn test_and_set(place: u32, old: u32) -> Entry {
+    Entry::Tas {
+        board: 0,
+        at: at(place),
+        old,
+    }
+}
+
 fn fault(kind: FaultKind, access: AccessKind, place: u32) -> Entry {
     Entry::Fault {
         board: 0,
@@ -144,6 +152,51 @@ fn a_resident_page(rt: HostRuntime) -> Result<(), Fail> {
         ),
     ];
     answers(&rt, flat, &rows);
+    Ok(())
+}
+
+#[test]
+fn a_test_and_set(rt: HostRuntime) -> Result<(), Fail> {
+    let rows = [
+        (test_and_set(64, 40), misread(41, 40)),
+        (load(64, 41), Ok(())),
+        (test_and_set(64, 41), Ok(())),
+        (load(64, 1), Ok(())),
+        (test_and_set(64, 0), misread(1, 0)),
+        (test_and_set(64, 1), Ok(())),
+        (store(64, 0), Ok(())),
+        (test_and_set(64, 0), Ok(())),
+        (load(64, 1), Ok(())),
+        (load(68, 0), Ok(())),
+        (test_and_set(66, 1), barred(1, 0)),
+        (test_and_set(4096, 0), barred(2, 0)),
+        (fault(FaultKind::Dirty, AccessKind::Tas, 64), barred(0, 7)),
+    ];
+    answers(&rt, one_page(rt.alloc(), RESIDENT)?, &rows);
+    let rows = [
+        (test_and_set(64, 41), barred(7, 0)),
+        (test_and_set(64, 40), barred(7, 0)),
+        (fault(FaultKind::Dirty, AccessKind::Tas, 64), Ok(())),
+        (load(64, 41), Ok(())),
+    ];
+    answers(&rt, one_page(rt.alloc(), CLEAN)?, &rows);
+    Ok(())
+}
+
+#[test]
+fn a_test_and_set_that_is_barred(rt: HostRuntime) -> Result<(), Fail> {
+    let rows = [
+        (test_and_set(64, 41), barred(5, 0)),
+        (fault(FaultKind::Protection, AccessKind::Tas, 64), Ok(())),
+        (fault(FaultKind::Dirty, AccessKind::Tas, 64), barred(5, 7)),
+        (load(64, 41), Ok(())),
+    ];
+    answers(&rt, one_page(rt.alloc(), READ_ONLY)?, &rows);
+    let rows = [
+        (test_and_set(64, 0), barred(3, 0)),
+        (fault(FaultKind::Missing, AccessKind::Tas, 64), Ok(())),
+    ];
+    answers(&rt, one_page(rt.alloc(), SWAPPED)?, &rows);
     Ok(())
 }
 

@@ -1,16 +1,17 @@
 -- The causes of the top call's answers, from the way in which it ended.
-use Rattle.std.proofs.Common.{◌≡◌, ◌≢◌, ℕ, ◌≤◌, ◌+◌, inl, inr, Bool, true, false, List, ◌++◌, length, Option, Some, None, refl, sym, ap, ◌∙◌, subst, append-nil, arith, if◌then◌else◌}
-use Rattle.std.specs.Prelude.{IsSomeAnd}
+use Rattle.std.proofs.Common.{◌≡◌, ◌≢◌, ℕ, ◌≤◌, ◌+◌, inl, inr, Bool, true, false, List, ◌++◌, length, Option, Some, None, Result, Ok, Err, refl, sym, ap, ◌∙◌, subst, append-nil, arith, if◌then◌else◌}
+use Rattle.std.specs.Prelude.{IsSome, IsSomeAnd}
 use Rattle.std.specs.List.{list_all}
 use Rattle.std.proofs.lemmas.List.{length-append}
 use Rattle.spur_io.specs.Told.{Loses, IsAtEnd, Gains, LosesCount}
 use Rattle.spur_asm.specs.Says.{Says}
-use Rattle.spur_asm.specs.declared.unit.Unit.{Unit as Program}
+use Rattle.spur_object.specs.declared.unit.Unit.{Unit as Program}
 use Rattle.spur_monitor.specs.declared.report.Report.{Report}
 use Rattle.spur_monitor.specs.declared.report.Outcome.{Outcome}
 use Rattle.spur_monitor.specs.declared.report.Status.{Status}
 use Rattle.spur_monitor.specs.declared.report.Status.TheVariants as status
-use Rattle.spur_monitor.specs.Words.{bad_word}
+use Rattle.spur_monitor.specs.declared.words.Options.{Options}
+use Rattle.spur_monitor.specs.Words.{options_of}
 use Rattle.spur_monitor.specs.Texts.{report_text, words_line}
 use Rattle.spur_monitor.specs.Headline.{input_limit}
 use Rattle.spur_monitor.specs.Answer.{has_halted, status_of, IsWritten, Whole, Front, Nothing, Way, BadWords, NotRead, TooLong, NoForm, Wanting, Ran, AnswersWords, InputRefused, Long, Formless, ReportsHalted, WholeOrWanting}
@@ -55,56 +56,56 @@ module _ (words : List (List ℕ)) (left left_now written written_now : Option (
 
   pub fine_reports : Way words left left_now written written_now outcome → outcome.status ≡ status.Fine → ReportsHalted true outcome
   fine_reports (BadWords number bad taken none put) is = absurd (let e = (put_as _ _ _ status.Fine _ _ (λ x. cc) (λ x. cc) put is).0 in cc)
-  fine_reports (NotRead command taken none failed put) is = absurd cc
-  fine_reports (TooLong command taken none put) is = absurd (let e = (put_as _ _ _ status.Fine _ _ (λ x. cc) (λ x. cc) put is).0 in cc)
-  fine_reports (NoForm command text whole within says none put) is = absurd (let e = (put_as _ _ _ status.Fine _ _ (λ x. cc) (λ x. cc) put is).0 in cc)
-  fine_reports (Wanting command none wanting put) is = absurd cc
+  fine_reports (NotRead options command taken none failed put) is = absurd cc
+  fine_reports (TooLong options command taken none put) is = absurd (let e = (put_as _ _ _ status.Fine _ _ (λ x. cc) (λ x. cc) put is).0 in cc)
+  fine_reports (NoForm options command text whole within says none put) is = absurd (let e = (put_as _ _ _ status.Fine _ _ (λ x. cc) (λ x. cc) put is).0 in cc)
+  fine_reports (Wanting options command none wanting put) is = absurd cc
   fine_reports (Ran report given holds) is =
       reports true report given (run_fine _ (put_as _ _ _ status.Fine _ _ (λ x. cc) (λ x. cc) holds.text_written is).0)
 
   pub ended_reports : Way words left left_now written written_now outcome → outcome.status ≡ status.Ended → ReportsHalted false outcome
   ended_reports (BadWords number bad taken none put) is = absurd (let e = (put_as _ _ _ status.Ended _ _ (λ x. cc) (λ x. cc) put is).0 in cc)
-  ended_reports (NotRead command taken none failed put) is = absurd cc
-  ended_reports (TooLong command taken none put) is = absurd (let e = (put_as _ _ _ status.Ended _ _ (λ x. cc) (λ x. cc) put is).0 in cc)
-  ended_reports (NoForm command text whole within says none put) is = absurd (let e = (put_as _ _ _ status.Ended _ _ (λ x. cc) (λ x. cc) put is).0 in cc)
-  ended_reports (Wanting command none wanting put) is = absurd cc
+  ended_reports (NotRead options command taken none failed put) is = absurd cc
+  ended_reports (TooLong options command taken none put) is = absurd (let e = (put_as _ _ _ status.Ended _ _ (λ x. cc) (λ x. cc) put is).0 in cc)
+  ended_reports (NoForm options command text whole within says none put) is = absurd (let e = (put_as _ _ _ status.Ended _ _ (λ x. cc) (λ x. cc) put is).0 in cc)
+  ended_reports (Wanting options command none wanting put) is = absurd cc
   ended_reports (Ran report given holds) is =
       reports false report given (run_ended _ (put_as _ _ _ status.Ended _ _ (λ x. cc) (λ x. cc) holds.text_written is).0)
 
   pub input_refused : Way words left left_now written written_now outcome → outcome.status ≡ status.Input → InputRefused left left_now written written_now
   input_refused (BadWords number bad taken none put) is = absurd (let e = (put_as _ _ _ status.Input _ _ (λ x. cc) (λ x. cc) put is).0 in cc)
-  input_refused (NotRead command taken none failed put) is = absurd cc
-  input_refused (TooLong command taken none put) is = Long taken (put_as _ _ _ status.Input _ _ (λ x. cc) (λ x. cc) put is).1
-  input_refused (NoForm command text whole within says none put) is =
+  input_refused (NotRead options command taken none failed put) is = absurd cc
+  input_refused (TooLong options command taken none put) is = Long taken (put_as _ _ _ status.Input _ _ (λ x. cc) (λ x. cc) put is).1
+  input_refused (NoForm options command text whole within says none put) is =
       Formless text whole within says (put_as _ _ _ status.Input _ _ (λ x. cc) (λ x. cc) put is).1
-  input_refused (Wanting command none wanting put) is = absurd cc
+  input_refused (Wanting options command none wanting put) is = absurd cc
   input_refused (Ran report given holds) is = absurd (run_no_input _ (put_as _ _ _ status.Input _ _ (λ x. cc) (λ x. cc) holds.text_written is).0)
 
-  not_words : Way words left left_now written written_now outcome → bad_word words ≡ None → outcome.status ≢ status.Words
-  not_words (BadWords number bad taken none put) fine is = absurd cc
-  not_words (NotRead command taken none failed put) fine is = absurd cc
-  not_words (TooLong command taken none put) fine is = absurd (let e = (put_as _ _ _ status.Words _ _ (λ x. cc) (λ x. cc) put is).0 in cc)
-  not_words (NoForm command text whole within says none put) fine is = absurd (let e = (put_as _ _ _ status.Words _ _ (λ x. cc) (λ x. cc) put is).0 in cc)
-  not_words (Wanting command none wanting put) fine is = absurd cc
-  not_words (Ran report given holds) fine is = run_no_words _ (put_as _ _ _ status.Words _ _ (λ x. cc) (λ x. cc) holds.text_written is).0
+  not_words : Way words left left_now written written_now outcome → (options : Options) → options_of words ≡ Ok options → outcome.status ≢ status.Words
+  not_words (BadWords number bad taken none put) chosen fine is = absurd cc
+  not_words (NotRead options command taken none failed put) chosen fine is = absurd cc
+  not_words (TooLong options command taken none put) chosen fine is = absurd (let e = (put_as _ _ _ status.Words _ _ (λ x. cc) (λ x. cc) put is).0 in cc)
+  not_words (NoForm options command text whole within says none put) chosen fine is = absurd (let e = (put_as _ _ _ status.Words _ _ (λ x. cc) (λ x. cc) put is).0 in cc)
+  not_words (Wanting options command none wanting put) chosen fine is = absurd cc
+  not_words (Ran report given holds) chosen fine is = run_no_words _ (put_as _ _ _ status.Words _ _ (λ x. cc) (λ x. cc) holds.text_written is).0
 
-  words_refused : (number : ℕ) → bad_word words ≡ Some number → Way words left left_now written written_now outcome
+  words_refused : (number : ℕ) → options_of words ≡ Err number → Way words left left_now written written_now outcome
       → (outcome.report ≡ None) × IsWritten (words_line number) status.Words outcome.status written written_now
   words_refused number is (BadWords other bad taken none put) =
       let same : other ≡ number = cc in
       (none, subst (λ (n : ℕ). IsWritten (words_line n) status.Words outcome.status written written_now) same put)
-  words_refused number is (NotRead command taken none failed put) = absurd cc
-  words_refused number is (TooLong command taken none put) = absurd cc
-  words_refused number is (NoForm command text whole within says none put) = absurd cc
-  words_refused number is (Wanting command none wanting put) = absurd cc
+  words_refused number is (NotRead options command taken none failed put) = absurd cc
+  words_refused number is (TooLong options command taken none put) = absurd cc
+  words_refused number is (NoForm options command text whole within says none put) = absurd cc
+  words_refused number is (Wanting options command none wanting put) = absurd cc
   words_refused number is (Ran report given holds) = absurd (let command = holds.accepted_text.command in cc)
 
-  words_by : (bad : Option ℕ) → bad_word words ≡ bad → Way words left left_now written written_now outcome → AnswersWords bad written written_now outcome
-  words_by None is way = not_words way is
-  words_by (Some number) is way = words_refused number is way
+  words_by : (read : Result Options ℕ) → options_of words ≡ read → Way words left left_now written written_now outcome → AnswersWords read written written_now outcome
+  words_by (Ok options) is way = not_words way options is
+  words_by (Err number) is way = words_refused number is way
 
-  pub answers_words : Way words left left_now written written_now outcome → AnswersWords (bad_word words) written written_now outcome
-  answers_words way = words_by (bad_word words) refl way
+  pub answers_words : Way words left left_now written written_now outcome → AnswersWords (options_of words) written written_now outcome
+  answers_words way = words_by (options_of words) refl way
 
   -- ---- completeness
 
@@ -137,12 +138,25 @@ module _ (words : List (List ℕ)) (left left_now written written_now : Option (
   run_whole report given no_fault (Nothing is put) = inr is
 
   pub complete : Way words left left_now written written_now outcome → outcome.status ≢ status.ReadFault → outcome.status ≢ status.WriteFault
-      → (text : List ℕ) (unit : Program) → bad_word words ≡ None → left ≡ Some text → length text ≤ input_limit → Says text unit
+      → (text : List ℕ) (options : Options) (unit : Program) → options_of words ≡ Ok options → left ≡ Some text → length text ≤ input_limit → Says text unit
       → WholeOrWanting written written_now outcome
-  complete (BadWords number bad taken none put) no_read no_write text unit command told within says = absurd cc
-  complete (NotRead fine taken none failed put) no_read no_write text unit command told within says = absurd (no_read failed)
-  complete (TooLong fine taken none put) no_read no_write text unit command told within says = absurd (not_long text told within taken)
-  complete (NoForm fine other whole short nothing none put) no_read no_write text unit command told within says =
+  complete (BadWords number bad taken none put) no_read no_write text chosen unit command told within says = absurd cc
+  complete (NotRead options fine taken none failed put) no_read no_write text chosen unit command told within says = absurd (no_read failed)
+  complete (TooLong options fine taken none put) no_read no_write text chosen unit command told within says = absurd (not_long text told within taken)
+  complete (NoForm options fine other whole short nothing none put) no_read no_write text chosen unit command told within says =
       absurd (nothing unit (subst (λ (t : List ℕ). Says t unit) (sym (same_text left left_now text other told whole.given whole.end)) says))
-  complete (Wanting fine none wanting put) no_read no_write text unit command told within says = inr wanting
-  complete (Ran report given holds) no_read no_write text unit command told within says = run_whole report given no_write holds.text_written
+  complete (Wanting options fine none wanting put) no_read no_write text chosen unit command told within says = inr wanting
+  complete (Ran report given holds) no_read no_write text chosen unit command told within says = run_whole report given no_write holds.text_written
+
+  -- ---- the report of a run whose writing failed
+
+  pub kept : Way words left left_now written written_now outcome → outcome.status ≡ status.WriteFault
+      → (text : List ℕ) (options : Options) (unit : Program) → options_of words ≡ Ok options → left ≡ Some text → length text ≤ input_limit → Says text unit
+      → IsSome outcome.report
+  kept (BadWords number bad taken none put) is text chosen unit command told within says = absurd cc
+  kept (NotRead options fine taken none failed put) is text chosen unit command told within says = absurd cc
+  kept (TooLong options fine taken none put) is text chosen unit command told within says = absurd (not_long text told within taken)
+  kept (NoForm options fine other whole short nothing none put) is text chosen unit command told within says =
+      absurd (nothing unit (subst (λ (t : List ℕ). Says t unit) (sym (same_text left left_now text other told whole.given whole.end)) says))
+  kept (Wanting options fine none wanting put) is text chosen unit command told within says = absurd cc
+  kept (Ran report given holds) is text chosen unit command told within says = subst (λ (o : Option Report). IsSome o) (sym given) refl

@@ -1,11 +1,9 @@
 pub mod SaidUnits
 pub mod WayFacts
 pub mod AnswerFacts
+pub mod WordFacts
 pub mod Residents
 pub mod Carries
-pub mod Afters
-pub mod Led
-pub mod Zeros
 pub mod Turns
 pub mod Keeps
 pub mod Rounds

@@ -7,7 +7,7 @@ use Rattle.spur_addr.specs.declared.page_entry.Protection.{Protection}
 use Rattle.spur_addr.specs.declared.page_entry.Protection.TheVariants.{ReadWrite}
 use Rattle.spur_addr.proofs.BitFacts.{flag-with_same, flag-with_other, number_of-with, readable-with}
 use Rattle.spur_addr.proofs.EntryFacts.{is_valid-resident, is_referenced-resident, is_on_swap-resident, is_leaving-resident, number_of-resident, resident_readable}
-use Rattle.spur_asm.specs.declared.unit.PageText.{PageText}
+use Rattle.spur_object.specs.declared.unit.PageText.{PageText}
 use Rattle.spur_monitor.specs.Opening.{dirty_entry, page_numbers, root_word, root_word_in, entry_word, entry_word_in, slot_of, page_at}
 use Rattle.spur_monitor.proofs.OpeningLists.{AreApart, Placed, Absent, At, placed, place_at, apart_keys, map_get, latest, latest_absent, latest_at}
 

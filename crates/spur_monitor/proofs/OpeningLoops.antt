@@ -17,8 +17,8 @@ use Rattle.std.proofs.lemmas.Option.{slice_get_within}
 use Rattle.spur_addr.specs.Address.{page_of}
 use Rattle.spur_addr.specs.PageEntry.{number_of, is_readable}
 use Rattle.spur_addr.specs.declared.page_entry.Protection.TheVariants.{ReadWrite}
-use Rattle.spur_asm.specs.declared.unit.PageText.{PageText}
-use Rattle.spur_asm.specs.declared.unit.WordText.{WordText}
+use Rattle.spur_object.specs.declared.unit.PageText.{PageText}
+use Rattle.spur_object.specs.declared.unit.WordText.{WordText}
 use Rattle.spur_monitor.specs.Opening.{AreRoots, dirty_entry, page_numbers, root_of_page, root_word, entry_word, last_word, page_word}
 use Rattle.spur_monitor.specs.Openable.{ArePagesOfUnit, AreWordsOfUnit}
 use Rattle.spur_monitor.specs.OpeningParts.{AreZeros, IsRootTable, IsPageTable, HoldsPages, IsEntryPlace}

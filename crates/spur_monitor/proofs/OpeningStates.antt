@@ -4,8 +4,8 @@ use Rattle.std.proofs.Common.{◌≡◌, ℕ, ◌+◌, ◌*◌, ◌<◌, List, �
 use Rattle.std.proofs.Math.ListN.{get_or}
 use Rattle.std.proofs.lemmas.List.{length-append, get_or_append_left, get_or-append-add}
 use Rattle.std.proofs.lemmas.Option.{slice_get_within}
-use Rattle.spur_asm.specs.declared.unit.Unit.{Unit as Program}
-use Rattle.spur_asm.specs.declared.unit.PageText.{PageText}
+use Rattle.spur_object.specs.declared.unit.Unit.{Unit as Program}
+use Rattle.spur_object.specs.declared.unit.PageText.{PageText}
 use Rattle.spur_flat.specs.declared.flat.Flat.{Flat}
 use Rattle.spur_monitor.specs.Opening.{IsOpening, AreRoots, page_numbers, root_word, entry_word, page_word}
 use Rattle.spur_monitor.specs.OpeningParts.{IsRootTable, IsPageTable, HoldsPages}

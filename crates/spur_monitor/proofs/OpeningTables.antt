@@ -7,8 +7,8 @@ use Rattle.std.proofs.lemmas.List.{length-map, get_or-map}
 use Rattle.std.proofs.lemmas.Option.{slice_get-get_or, slice_get_within, get_or_from_slice_get}
 use Rattle.spur_addr.specs.PageEntry.{is_dirty, is_leaving, is_on_swap, is_readable, is_referenced, is_valid, number_of}
 use Rattle.spur_addr.specs.declared.page_entry.Protection.TheVariants.{ReadWrite}
-use Rattle.spur_asm.specs.declared.unit.Unit.{Unit as Program}
-use Rattle.spur_asm.specs.declared.unit.PageText.{PageText}
+use Rattle.spur_object.specs.declared.unit.Unit.{Unit as Program}
+use Rattle.spur_object.specs.declared.unit.PageText.{PageText}
 use Rattle.spur_flat.specs.declared.flat.Flat.{Flat}
 use Rattle.spur_flat.specs.Table.{entry_at, table_words}
 use Rattle.spur_flat.specs.Validity.{ArePages, IsDeclared, IsTableFrame, IsDataFrame, StandsFor, HasEntry, IsValidFlat}

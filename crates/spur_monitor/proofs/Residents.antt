@@ -8,7 +8,7 @@ use Rattle.spur_flat.specs.declared.access.AccessKind.TheVariants as access
 use Rattle.spur_flat.specs.declared.access.FaultKind.{FaultKind}
 use Rattle.spur_flat.specs.declared.access.FaultKind.TheVariants as fault
 use Rattle.spur_flat.specs.declared.entry.Entry.{Entry}
-use Rattle.spur_flat.specs.declared.entry.Entry.TheVariants.{Load, Store, Fault}
+use Rattle.spur_flat.specs.declared.entry.Entry.TheVariants.{Load, Store, Tas, Fault}
 use Rattle.spur_flat.specs.declared.flat.Flat.{Flat}
 use Rattle.spur_flat.specs.Access.{allows, is_write, may, miss_of}
 use Rattle.spur_flat.specs.Table.{entry_at, place_in, place_of, table_words, walk_of}
@@ -16,7 +16,7 @@ use Rattle.spur_flat.specs.Validity.{IsValidFlat}
 use Rattle.spur_flat.specs.History.{IsAllowed, on, with_word}
 use Rattle.spur_flat.specs.Laws.{address_of}
 use Rattle.spur_flat.proofs.WalkFacts.{data_within, done_is_valid, entry_at-same, walk_of-entry}
-use Rattle.spur_monitor.specs.Meaning.{is_ending}
+use Rattle.spur_cpu.specs.Meaning.{is_ending}
 use Rattle.spur_monitor.specs.Resident.{IsAllResident}
 
 same_entry : (d e : ℕ) → Some d ≡ Some e → d ≡ e
@@ -71,10 +71,10 @@ both_false : (b : Bool) → (if b then false else false) ≡ true → ⊥
 both_false true h = absurd cc
 both_false false h = absurd cc
 
--- a store that may be done writes past the tables
-past_tables : (F : Flat) (g : ℕ) (entry : Option ℕ) → IsValidFlat F → g < 2 ^ 38 → walk_of F g ≡ entry → may entry access.Store g None ≡ true → table_words F.tables ≤ place_in entry g
-past_tables F g None ok small walked done = absurd (both_false (is_aligned g) done)
-past_tables F g (Some e) ok small walked done = (data_within F g e ok small walked (done_is_valid e access.Store g done)).0
+-- the word of an access that may be done stands past the tables
+past_tables : (F : Flat) (kind : AccessKind) (g : ℕ) (entry : Option ℕ) → IsValidFlat F → g < 2 ^ 38 → walk_of F g ≡ entry → may entry kind g None ≡ true → table_words F.tables ≤ place_in entry g
+past_tables F kind g None ok small walked done = absurd (both_false (is_aligned g) done)
+past_tables F kind g (Some e) ok small walked done = (data_within F g e ok small walked (done_is_valid e kind g done)).0
 
 resident-with_word : (F : Flat) (place value : ℕ) → IsValidFlat F → IsAllResident F → table_words F.tables ≤ place → IsAllResident (with_word F place value)
 resident-with_word F place value ok all past = record {
@@ -97,5 +97,7 @@ resident-with_word F place value ok all past = record {
 pub resident-on : (F : Flat) (entry : Entry) → IsValidFlat F → IsAllResident F → address_of entry < 2 ^ 38 → IsAllowed F entry → IsAllResident (on F entry)
 resident-on F (Load board at value) ok all small allowed = all
 resident-on F (Store board at value) ok all small allowed =
-    resident-with_word F (place_of F at) value ok all (past_tables F at (walk_of F at) ok small refl allowed)
+    resident-with_word F (place_of F at) value ok all (past_tables F access.Store at (walk_of F at) ok small refl allowed)
+resident-on F (Tas board at old) ok all small allowed =
+    resident-with_word F (place_of F at) 1 ok all (past_tables F access.Tas at (walk_of F at) ok small refl allowed.0)
 resident-on F (Fault board kind access at) ok all small allowed = all

@@ -3,17 +3,15 @@ use Rattle.std.proofs.Common.{◌≡◌, ◌≢◌, ℕ, zero, suc, ◌+◌, ◌
 use Rattle.std.specs.Prelude.{is_some, slice_get}
 use Rattle.std.proofs.lemmas.Option.{slice_get_read}
 use Rattle.std.proofs.lemmas.List.Elements.{filter-append}
-use Rattle.spur_asm.specs.declared.unit.BoardText.{BoardText}
 use Rattle.spur_flat.specs.declared.entry.Entry.{Entry}
-use Rattle.spur_flat.specs.declared.entry.Entry.TheVariants.{Load, Store, Fault}
+use Rattle.spur_flat.specs.declared.entry.Entry.TheVariants.{Load, Store, Tas, Fault}
 use Rattle.spur_flat.specs.History.{is_own, own_entries}
+use Rattle.spur_cpu.specs.Meaning.{Meaning}
+use Rattle.spur_cpu.specs.After.{IsLed, begun}
 use Rattle.spur_monitor.specs.declared.board.Board.{Board}
 use Rattle.spur_monitor.specs.declared.report.Ending.{Ending}
-use Rattle.spur_monitor.specs.After.{IsLed, begun}
-use Rattle.spur_monitor.specs.Plain.{plain, opened}
-use Rattle.spur_monitor.specs.Headline.{budget}
 use Rattle.spur_monitor.specs.Boards.{IsSound, Stays, board_of, course_now}
-use Rattle.spur_monitor.specs.Machines.{AllFollow, AllSound, Follows, HasMoved, HasNoOthers, left_in, left_of}
+use Rattle.spur_monitor.specs.Machines.{AllFollow, AllSound, Follows, HasMoved, left_in, left_of}
 
 pub got_set : {A : Type 0} (xs : List A) (i j : ℕ) (a b : A) → slice_get (set xs i a) j ≡ Some b → ((j ≡ i) × (a ≡ b)) ⊎ ((j ≢ i) × (slice_get xs j ≡ Some b))
 got_set [] i j a b e = absurd (cc)
@@ -34,21 +32,24 @@ none_if None h = refl
 none_if (Some ending) h = absurd cc
 
 -- two readings of one place are of one board
-pub none-read : (boards : List Board) (i : ℕ) (first second : Board) → i < length boards → first ≡ get_or boards i first → second ≡ get_or boards i second → is_some first.ended ≡ false → second.ended ≡ None
-none-read boards i first second lt a b h =
+pub none-read : {C : Type 0} (boards : List (Board C)) (i : ℕ) (first second : Board C) → i < length boards → first ≡ get_or boards i first → second ≡ get_or boards i second
+    → is_some first.ended ≡ false → second.ended ≡ None
+none-read {C} boards i first second lt a b h =
     let at : slice_get boards i ≡ Some first = slice_get_read _ _ _ _ refl lt a in
     let also : slice_get boards i ≡ Some second = slice_get_read _ _ _ _ refl lt b in
     let same : first ≡ second = cc in
-    none_if second.ended (ap (λ (x : Board). is_some x.ended) (sym same) ∙ h)
+    none_if second.ended (ap (λ (x : Board C). is_some x.ended) (sym same) ∙ h)
 
 is_own-mine : (e : Entry) (i : ℕ) → board_of e ≡ i → is_own i e ≡ true
 is_own-mine (Load board at value) i is = eq-eqb board i is
 is_own-mine (Store board at value) i is = eq-eqb board i is
+is_own-mine (Tas board at old) i is = eq-eqb board i is
 is_own-mine (Fault board kind access at) i is = eq-eqb board i is
 
 is_own-other : (e : Entry) (i : ℕ) → board_of e ≢ i → is_own i e ≡ false
 is_own-other (Load board at value) i is = ne_eqb board i is
 is_own-other (Store board at value) i is = ne_eqb board i is
+is_own-other (Tas board at old) i is = ne_eqb board i is
 is_own-other (Fault board kind access at) i is = ne_eqb board i is
 
 -- one more entry is one more of its board, and none of another
@@ -62,60 +63,49 @@ own_entries-other history e i is =
     let one : own_entries (e ∷ []) i ≡ [] = ap (λ (b : Bool). if b then e ∷ [] else []) (is_own-other e i is) in
     filter-append (is_own i) history (e ∷ []) ∙ (ap (λ (r : List Entry). own_entries history i ++ r) one ∙ append-nil (own_entries history i))
 
-pub sound-set : (boards : List Board) (i : ℕ) (old new : Board) → AllSound boards → slice_get boards i ≡ Some old → Stays old new → AllSound (set boards i new)
-sound-set boards i old new all at stays = record {
-  number = λ j b e. ⊎_elim
-      (λ (t : (j ≡ i) × (new ≡ b)). ap (λ (x : Board). x.number) (sym t.1) ∙ stays.number ∙ all.number i old at ∙ sym t.0)
-      (λ (t : (j ≢ i) × (slice_get boards j ≡ Some b)). all.number j b t.1) (got_set boards i j new b e);
-  sound = λ j b e. ⊎_elim
-      (λ (t : (j ≡ i) × (new ≡ b)). subst IsSound t.1 stays.sound)
-      (λ (t : (j ≢ i) × (slice_get boards j ≡ Some b)). all.sound j b t.1) (got_set boards i j new b e);
-}
-
--- one board is led on, and the others have no new entry
-pub follow-set : (texts : List BoardText) (before now : List Entry) (boards : List Board) (i : ℕ) (new : Board) → AllFollow texts before boards
-    → ((text : BoardText) → slice_get texts i ≡ Some text → Follows text now i new) → ((j : ℕ) → j ≢ i → own_entries now j ≡ own_entries before j) → AllFollow texts now (set boards i new)
-follow-set texts before now boards i new all own others = record {
-  same = length-set _ _ _ ∙ all.same;
-  each = λ j text b at e. ⊎_elim
-      (λ (t : (j ≡ i) × (new ≡ b)). subst (λ (z : ℕ × Board). Follows text now z.0 z.1) (λ k. (sym t.0 k, t.1 k)) (own text (sym (ap (slice_get texts) t.0) ∙ at)))
-      (λ (t : (j ≢ i) × (slice_get boards j ≡ Some b)). let its = all.each j text b at t.1 in record {
-        segs = its.segs;
-        led = subst (λ (es : List Entry). IsLed plain text.segs budget (begun (opened text.code)) es (course_now b)) (sym (others j t.0)) its.led;
-      })
-      (got_set boards i j new b e);
-}
-
-pub no_others-set : (boards : List Board) (before now : List Entry) (i : ℕ) (new : Board) → HasNoOthers boards before
-    → ((j : ℕ) → length boards ≤ j → own_entries now j ≡ own_entries before j) → HasNoOthers (set boards i new) now
-no_others-set boards before now i new none others = record {
-  each = λ j past. let le : length boards ≤ j = (let same = length-set boards i new in omega arith) in others j le ∙ none.each j le;
-}
-
 less : (ending : Option Ending) (was most old new : ℕ) → (ending ≡ None → new ≡ old + 1) → was ≡ most - old → left_in ending (most - new) ≤ was - 1
 less None was most old new h w = let is = h refl in omega arith
 less (Some ending) was most old new h w = omega arith
 
-pub moved-set : (boards : List Board) (i : ℕ) (old new : Board) → slice_get boards i ≡ Some old → old.ended ≡ None → Stays old new → HasMoved i boards (set boards i new)
-moved-set boards i old new at going stays = record {
-  own = λ b c e f. ⊎_elim
-      (λ (t : (i ≡ i) × (new ≡ c)).
-      let same : old ≡ b = cc in
-      let was : left_of old ≡ budget - old.retired = ap (λ (x : Option Ending). left_in x (budget - old.retired)) going in
-      let first : left_of new ≤ left_of old - 1 = less new.ended (left_of old) budget old.retired new.retired stays.moved was in
-      subst (λ (z : Board × Board). left_of z.1 ≤ left_of z.0 - 1) (λ k. (same k, t.1 k)) first)
-      (λ (t : (i ≢ i) × (slice_get boards i ≡ Some c)). absurd (t.0 refl)) (got_set boards i i new c f);
-  others = λ j n. get_other boards i j new n;
-  same = length-set _ _ _;
-}
+module _ {C S : Type 0} (m : Meaning S) (state : C → S) (spare : C → ℕ) where
+  pub sound-set : (boards : List (Board C)) (i : ℕ) (old new : Board C) → AllSound m state spare boards → slice_get boards i ≡ Some old → Stays m state spare old new
+      → AllSound m state spare (set boards i new)
+  sound-set boards i old new all at stays = record {
+    number = λ j b e. ⊎_elim
+        (λ (t : (j ≡ i) × (new ≡ b)). ap (λ (x : Board C). x.number) (sym t.1) ∙ stays.number ∙ all.number i old at ∙ sym t.0)
+        (λ (t : (j ≢ i) × (slice_get boards j ≡ Some b)). all.number j b t.1) (got_set boards i j new b e);
+    sound = λ j b e. ⊎_elim
+        (λ (t : (j ≡ i) × (new ≡ b)). subst (IsSound m state spare) t.1 stays.sound)
+        (λ (t : (j ≢ i) × (slice_get boards j ≡ Some b)). all.sound j b t.1) (got_set boards i j new b e);
+  }
 
--- a board that has ended has nothing left
-pub moved-none : (boards : List Board) (i : ℕ) (old : Board) → slice_get boards i ≡ Some old → (old.ended ≡ None → ⊥) → HasMoved i boards boards
-moved-none boards i old at ended = record {
-  own = λ b c e f. let same : old ≡ c = cc in subst (λ (x : Board). left_of x ≤ left_of b - 1) same (nothing old.ended (budget - old.retired) (left_of b - 1) ended);
-  others = λ j n. refl;
-  same = refl;
-} where
-  nothing : (ending : Option Ending) (left most : ℕ) → (ending ≡ None → ⊥) → left_in ending left ≤ most
-  nothing None left most h = absurd (h refl)
-  nothing (Some ending) left most h = omega arith
+  -- one board is led on, and the others have no new entry
+  pub follow-set : (limit : ℕ) (starts : List (Board C)) (before now : List Entry) (boards : List (Board C)) (i : ℕ) (new : Board C) → AllFollow m state spare limit starts before boards
+      → ((start : Board C) → slice_get starts i ≡ Some start → Follows m state spare limit start now i new) → ((j : ℕ) → j ≢ i → own_entries now j ≡ own_entries before j)
+      → AllFollow m state spare limit starts now (set boards i new)
+  follow-set limit starts before now boards i new all own others = record {
+    same = length-set _ _ _ ∙ all.same;
+    each = λ j start b at e. ⊎_elim
+        (λ (t : (j ≡ i) × (new ≡ b)). subst (λ (z : ℕ × Board C). Follows m state spare limit start now z.0 z.1) (λ k. (sym t.0 k, t.1 k)) (own start (sym (ap (slice_get starts) t.0) ∙ at)))
+        (λ (t : (j ≢ i) × (slice_get boards j ≡ Some b)). let its = all.each j start b at t.1 in record {
+          segs = its.segs;
+          budget = its.budget;
+          led = subst (λ (es : List Entry). IsLed m start.segs limit (begun (state start.cpu)) es (course_now m state b)) (sym (others j t.0)) its.led;
+        })
+        (got_set boards i j new b e);
+  }
+
+  -- a board that has not ended has less left after its turn
+  pub moved-set : (boards : List (Board C)) (i : ℕ) (old new : Board C) → slice_get boards i ≡ Some old → old.ended ≡ None → Stays m state spare old new → HasMoved i boards (set boards i new)
+  moved-set boards i old new at going stays = record {
+    own = λ b c e f. ⊎_elim
+        (λ (t : (i ≡ i) × (new ≡ c)).
+        let same : old ≡ b = cc in
+        let was : left_of old ≡ old.budget - old.retired = ap (λ (x : Option Ending). left_in x (old.budget - old.retired)) going in
+        let first : left_of new ≤ left_of old - 1 =
+        subst (λ (n : ℕ). left_in new.ended (n - new.retired) ≤ left_of old - 1) (sym stays.budget) (less new.ended (left_of old) old.budget old.retired new.retired stays.moved was) in
+        subst (λ (z : Board C × Board C). left_of z.1 ≤ left_of z.0 - 1) (λ k. (same k, t.1 k)) first)
+        (λ (t : (i ≢ i) × (slice_get boards i ≡ Some c)). absurd (t.0 refl)) (got_set boards i i new c f);
+    others = λ j n. get_other boards i j new n;
+    same = length-set _ _ _;
+  }

@@ -1,10 +1,11 @@
 -- How the ways of the top call come about.
-use Rattle.std.proofs.Common.{◌≡◌, ℕ, ◌≤◌, List, [], length, Option, Some, None, refl, sym, subst, append-nil}
+use Rattle.std.proofs.Common.{◌≡◌, ℕ, ◌≤◌, List, [], length, Option, Some, None, Ok, refl, sym, subst, append-nil}
 use Rattle.spur_io.specs.Told.{Loses, IsAtEnd, Gains}
 use Rattle.spur_monitor.specs.declared.report.Outcome.{Outcome}
 use Rattle.spur_monitor.specs.declared.report.Status.{Status}
 use Rattle.spur_monitor.specs.declared.report.Status.TheVariants as status
-use Rattle.spur_monitor.specs.Words.{bad_word}
+use Rattle.spur_monitor.specs.declared.words.Options.{Options}
+use Rattle.spur_monitor.specs.Words.{options_of}
 use Rattle.spur_monitor.specs.Headline.{input_limit, IsWhole}
 use Rattle.spur_monitor.specs.Answer.{InputAnswered, Reported, SaysNothing, OutOfMemory, IsWritten, Nothing, Way, NoForm, Wanting, Ran}
 
@@ -32,12 +33,13 @@ whole_of left left_now text items same given end =
     record { given = subst (λ (bytes : List ℕ). Loses left left_now bytes) (sym same) given; end = end }
 
 -- an input that was read whole ends in one of three ways
-pub read_whole : (words : List (List ℕ)) (left left_now written written_now : Option (List ℕ)) (text : List ℕ) (outcome : Outcome) → bad_word words ≡ None
-    → IsWhole left left_now text → length text ≤ input_limit → InputAnswered text outcome written written_now → Way words left left_now written written_now outcome
-read_whole words left left_now written written_now text outcome command whole within (Reported report is runs put) =
+pub read_whole : (words : List (List ℕ)) (left left_now written written_now : Option (List ℕ)) (options : Options) (text : List ℕ) (outcome : Outcome) → options_of words ≡ Ok options
+    → IsWhole left left_now text → length text ≤ input_limit → InputAnswered options text outcome written written_now → Way words left left_now written written_now outcome
+read_whole words left left_now written written_now options text outcome command whole within (Reported report is runs put) =
     Ran report is record {
       text = text;
       whole = whole;
+      options = options;
       unit = runs.unit;
       opening = runs.opening;
       accepted_text = record { command = command; within = within; says = runs.says; opens = runs.opens };
@@ -47,7 +49,7 @@ read_whole words left left_now written written_now text outcome command whole wi
       endings = runs.runs.endings;
       text_written = put;
     }
-read_whole words left left_now written written_now text outcome command whole within (SaysNothing says none put) =
-    NoForm command text whole within says none put
-read_whole words left left_now written written_now text outcome command whole within (OutOfMemory none wanting put) =
-    Wanting command none wanting put
+read_whole words left left_now written written_now options text outcome command whole within (SaysNothing says none put) =
+    NoForm options command text whole within says none put
+read_whole words left left_now written written_now options text outcome command whole within (OutOfMemory none wanting put) =
+    Wanting options command none wanting put

@@ -1,12 +1,6 @@
 pub mod Statuses
 pub mod Words
 pub mod Texts
-pub mod Meaning
-pub mod Steps
-pub mod Plain
-pub mod PlainCpus
-pub mod After
-pub mod ZeroRegister
 pub mod Openable
 pub mod Opening
 pub mod OpeningParts
@@ -14,4 +8,5 @@ pub mod Resident
 pub mod Headline
 pub mod Boards
 pub mod Machines
+pub mod PlainBoards
 pub mod Answer

@@ -2,9 +2,9 @@
 use Rattle.std.specs.Prelude.{◌≡◌, ◌≢◌, ◌+◌, ◌*◌, ◌%◌, ◌^◌, ◌<◌, ◌≤◌, List, length}
 use Rattle.std.specs.List.{All, AllPairs, Any}
 use Rattle.spur_addr.specs.Address.{page_of}
-use Rattle.spur_asm.specs.declared.unit.Unit.{Unit as Program}
-use Rattle.spur_asm.specs.declared.unit.PageText.{PageText}
-use Rattle.spur_asm.specs.declared.unit.WordText.{WordText}
+use Rattle.spur_object.specs.declared.unit.Unit.{Unit as Program}
+use Rattle.spur_object.specs.declared.unit.PageText.{PageText}
+use Rattle.spur_object.specs.declared.unit.WordText.{WordText}
 
 -- pages that can be declared together: no page twice, none in segment 255, in which the page table stands, and so few
 -- that a frame for each and a page of the page table for each leave room for the 64 frames of the root

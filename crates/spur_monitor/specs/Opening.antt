@@ -5,9 +5,9 @@ use Rattle.std.specs.List.Sorted.{IsStrictlyIncreasing}
 use Rattle.spur_addr.specs.PageEntry.{resident_of, with_bit}
 use Rattle.spur_addr.specs.declared.page_entry.Protection.{Protection}
 use Rattle.spur_addr.specs.declared.page_entry.Protection.TheVariants.{ReadWrite}
-use Rattle.spur_asm.specs.declared.unit.Unit.{Unit as Program}
-use Rattle.spur_asm.specs.declared.unit.PageText.{PageText}
-use Rattle.spur_asm.specs.declared.unit.WordText.{WordText}
+use Rattle.spur_object.specs.declared.unit.Unit.{Unit as Program}
+use Rattle.spur_object.specs.declared.unit.PageText.{PageText}
+use Rattle.spur_object.specs.declared.unit.WordText.{WordText}
 use Rattle.spur_flat.specs.declared.flat.Flat.{Flat}
 
 -- the entry of a resident page whose dirty bit is set as well

@@ -1,7 +1,7 @@
 -- The parts of an opening's memory, each on its own: the root table, the page table, and the frames of the pages.
 use Rattle.std.specs.Prelude.{◌≡◌, ℕ, ◌+◌, ◌*◌, ◌%◌, ◌<◌, List, length, Some, slice_index, slice_get}
-use Rattle.spur_asm.specs.declared.unit.PageText.{PageText}
-use Rattle.spur_asm.specs.declared.unit.WordText.{WordText}
+use Rattle.spur_object.specs.declared.unit.PageText.{PageText}
+use Rattle.spur_object.specs.declared.unit.WordText.{WordText}
 use Rattle.spur_monitor.specs.Opening.{root_of_page, root_word, entry_word, page_word}
 
 -- as many words as said, all zero

@@ -7,7 +7,7 @@ use Rattle.std.specs.Fmt.{decimal}
 use Rattle.spur_flat.specs.declared.access.FaultKind.{FaultKind}
 use Rattle.spur_flat.specs.declared.access.FaultKind.TheVariants.{Align, Unmapped, Missing, Leaving, Protection, Reference, Dirty}
 use Rattle.spur_monitor.specs.declared.report.Ending.{Ending}
-use Rattle.spur_monitor.specs.declared.report.Ending.TheVariants.{Halted, Faulted}
+use Rattle.spur_monitor.specs.declared.report.Ending.TheVariants.{Halted, Faulted, Spent}
 use Rattle.spur_monitor.specs.declared.report.BoardReport.{BoardReport}
 use Rattle.spur_monitor.specs.declared.report.Report.{Report}
 
@@ -48,6 +48,7 @@ abbrev pub ending_text : Option Ending → List ℕ
 ending_text None = codes "running"
 ending_text (Some Halted) = codes "halted"
 ending_text (Some (Faulted kind at)) = fault_text kind at
+ending_text (Some Spent) = codes "spent"
 
 -- the line with a board's number, its ending, and how many instructions it completed
 abbrev pub ending_line : ℕ → BoardReport → List ℕ

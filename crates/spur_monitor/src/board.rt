@@ -1,49 +1,56 @@
 //! One board, and one instruction of it.
 
-ghost use Rattle.std.specs.Prelude.{◌≡◌, ◌<◌, None, Some};
-ghost use Rattle.spur_flat.specs.Validity.{IsValidFlat};
+ghost use Rattle.std.specs.Prelude.{◌≡◌, ◌<◌, None, Some, IfOk};
 ghost use Rattle.spur_flat.specs.History.{IsAllowed, on};
-ghost use Rattle.spur_monitor.specs.After.{carry_local};
+ghost use Rattle.spur_flat.specs.Validity.{IsValidFlat};
+ghost use Rattle.spur_cpu.specs.After.{carry_local};
+ghost use Rattle.spur_cpu.specs.Meaning.{IsAccess};
+ghost use Rattle.spur_cpu.specs.declared.cpu.Want.TheVariants.{Local};
 ghost use Rattle.spur_monitor.specs.Boards.{entry_of};
-ghost use Rattle.spur_monitor.specs.Headline.{budget};
-ghost use Rattle.spur_monitor.specs.Meaning.{IsAccess};
-ghost use Rattle.spur_monitor.specs.Plain.{plain};
-ghost use Rattle.spur_monitor.specs.PlainCpus.{plain_of};
 ghost use Rattle.spur_monitor.specs.Resident.{IsAllResident};
-ghost use Rattle.spur_monitor.specs.declared.cpu.Want.TheVariants.{Local};
 
-use crate::cpu::{Answer, Want};
-use crate::plain::PlainCpu;
 use crate::report::{BoardReport, Ending};
 use spur_addr::{GlobalAddr, global};
-use spur_asm::BoardText;
+use spur_cpu::{Answer, Cpu, PlainCpu, Want};
 use spur_flat::{AccessKind, Entry, Flat};
-use std::alloc::Global;
+use spur_object::BoardText;
+use std::alloc::{AllocError, Global};
 
-/// How many instructions a board may complete: this project's own profile. A program of the form that is read so far is
-/// shorter, and ends before.
-pub const BUDGET: u32 = 100_000;
-
-/// A board.
+/// A board with its processor.
 #[derive(Debug, Drop)]
-pub struct Board {
+pub struct Board<C> {
     /// Its number, from 0.
     pub number: u32,
     /// Its processor.
-    pub cpu: PlainCpu,
+    pub cpu: C,
     /// Its four segment registers.
     pub segs: [u8; 4],
     /// How many instructions it has completed.
     pub retired: u32,
+    /// How many instructions it may complete.
+    pub budget: u32,
     /// Its ending, if it has one.
     pub ended: Option<Ending>,
 }
 
-/// Does an access of a board, and gives its entry.
-///
-/// The access is answered by its miss answer; where there is none, it is done. `value` is the word that a store writes.
-fn access(flat: &mut Flat, board: u32, kind: AccessKind, at: GlobalAddr, value: u32) -> Entry
+/// Makes the change of an entry that is allowed, and gives the entry back.
+fn applied(flat: &mut Flat, entry: Entry) -> Entry
     requires valid { IsValidFlat flat.old }
+    requires allowed { IsAllowed flat.old entry }
+    ensures entry { result ≡ entry }
+    ensures flat { flat.new ≡ on flat.old entry }
+    ensures valid { IsValidFlat flat.new }
+{
+    flat.apply(&entry).unwrap();
+    entry
+}
+
+/// Does an access of a board, and gives its one entry.
+///
+/// The access is answered by its miss answer; where there is none, it is done: a test-and-set reads and writes in the
+/// one step. `value` is the word that a store writes.
+fn access(flat: &mut Flat, board: u32, kind: AccessKind, at: GlobalAddr, value: u32) -> Entry
+    requires { IsValidFlat flat.old }
     ensures entry { result ≡ entry_of flat.old board kind at value }
     ensures flat { flat.new ≡ on flat.old result }
     ensures allowed { IsAllowed flat.old result }
@@ -63,60 +70,49 @@ fn access(flat: &mut Flat, board: u32, kind: AccessKind, at: GlobalAddr, value: 
             at,
             value: flat.word(at),
         },
-        AccessKind::Store => {
-            let entry = Entry::Store { board, at, value };
-            flat.apply(&entry).unwrap();
-            entry
+        AccessKind::Store => applied(flat, Entry::Store { board, at, value }),
+        AccessKind::Tas => {
+            let old = flat.word(at);
+            applied(flat, Entry::Tas { board, at, old })
         }
     }
 }
 
-impl Board {
-    ghost use Rattle.spur_monitor.specs.Boards.{HasDone, IsBegun, IsGoing, IsLast, Leads, Stays, TakenBy, course_now, report_of, retired};
+impl<C: Cpu> Board<C> {
+    ghost use Rattle.spur_monitor.specs.Boards.{HasDone, IsGoing, IsLast, Leads, Stays, TakenBy, course_now, retired};
 
-    /// The board of a text at its beginning. `number` is its number from 0.
-    pub fn new(alloc: Global, number: u32, text: BoardText) -> Board
-        ensures { IsBegun number text result }
-    {
-        let BoardText { segs, code } = text;
-        Board {
-            number,
-            cpu: PlainCpu::new(alloc, code),
-            segs,
-            retired: 0,
-            ended: None,
-        }
-    }
-
-    /// Counts an instruction that is completed; where the processor wants nothing more, the board has halted.
+    /// Counts an instruction that is completed. Where the processor wants nothing more, the board has halted; else one
+    /// that has met its budget has spent it.
     fn retire(&mut self)
-        requires left { self.old.retired < BUDGET }
+        requires left { self.old.retired < self.old.budget }
         requires ended { self.old.ended ≡ None }
-        ensures { self.new ≡ retired self.old }
+        ensures { self.new ≡ retired C.meaning C.state self.old }
     {
         self.retired += 1;
         if let Want::Ended = self.cpu.want() {
             self.ended = Some(Ending::Halted);
+        } else if self.retired == self.budget {
+            self.ended = Some(Ending::Spent);
         }
     }
 
     /// Does an instruction without an access.
     fn local(&mut self)
-        requires going { IsGoing self.old }
-        requires local { plain.wants (plain_of self.old.cpu) ≡ Local }
-        ensures carried { carry_local plain self.old.segs budget (course_now self.old) ≡ Some (course_now self.new) }
-        ensures stays { Stays self.old self.new }
+        requires going { IsGoing C.meaning C.state C.room self.old }
+        requires local { C.meaning.wants (C.state self.old.cpu) ≡ Local }
+        ensures carried { carry_local C.meaning self.old.segs self.old.budget (course_now C.meaning C.state self.old) ≡ Some (course_now C.meaning C.state self.new) }
+        ensures stays { Stays C.meaning C.state C.room self.old self.new }
     {
         self.cpu.local();
         self.retire();
     }
 
-    /// Completes the instruction of an access that is done. `value` is the word that a load read.
+    /// Completes the instruction of an access that is done. `value` is the word that a load or a test-and-set read.
     fn done(&mut self, value: u32)
-        requires going { IsGoing self.old }
-        requires access { IsAccess (plain.wants (plain_of self.old.cpu)) }
-        ensures done { HasDone self.old value self.new }
-        ensures stays { Stays self.old self.new }
+        requires going { IsGoing C.meaning C.state C.room self.old }
+        requires access { IsAccess (C.meaning.wants (C.state self.old.cpu)) }
+        ensures done { HasDone C.meaning C.state self.old value self.new }
+        ensures stays { Stays C.meaning C.state C.room self.old self.new }
     {
         self.cpu.answer(Answer::Done(value));
         self.retire();
@@ -124,15 +120,16 @@ impl Board {
 
     /// Takes the entry of the board's access: the access is done, or a fault ends the board.
     fn take(&mut self, entry: &Entry)
-        requires going { IsGoing self.old }
-        requires access { IsAccess (plain.wants (plain_of self.old.cpu)) }
+        requires going { IsGoing C.meaning C.state C.room self.old }
+        requires access { IsAccess (C.meaning.wants (C.state self.old.cpu)) }
         requires last { IsLast entry.now }
-        ensures taken { TakenBy self.old entry.now self.new }
-        ensures stays { Stays self.old self.new }
+        ensures taken { TakenBy C.meaning C.state self.old entry.now self.new }
+        ensures stays { Stays C.meaning C.state C.room self.old self.new }
     {
         match entry {
             Entry::Load { value, .. } => self.done(*value),
             Entry::Store { value, .. } => self.done(*value),
+            Entry::Tas { old, .. } => self.done(*old),
             Entry::Fault { kind, at, .. } => {
                 self.cpu.answer(Answer::Faulted(*kind));
                 self.ended = Some(Ending::Faulted {
@@ -143,15 +140,16 @@ impl Board {
         }
     }
 
-    /// Does one instruction, and gives the entry of its access, if it has one.
+    /// Does one instruction, and gives the entry of its access, if it has one. It takes no memory.
     ///
-    /// Each instruction that is completed counts one in `retired`, `halt` too; one that faults counts nothing.
+    /// Each instruction that is completed counts one in `retired`, `halt` too; one that faults counts nothing. A board
+    /// whose `retired` meets its budget ends as Spent, unless it has halted.
     pub fn step(&mut self, flat: &mut Flat) -> Option<Entry>
-        requires going { IsGoing self.old }
+        requires going { IsGoing C.meaning C.state C.room self.old }
         requires valid { IsValidFlat flat.old }
         requires resident { IsAllResident flat.old }
-        ensures leads { Leads flat.old self.old result flat.new self.new }
-        ensures stays { Stays self.old self.new }
+        ensures leads { Leads C.meaning C.state flat.old self.old result flat.new self.new }
+        ensures stays { Stays C.meaning C.state C.room self.old self.new }
         ensures valid { IsValidFlat flat.new }
         ensures resident { IsAllResident flat.new }
     {
@@ -167,6 +165,32 @@ impl Board {
                 None
             }
         }
+    }
+}
+
+impl Board<PlainCpu> {
+    ghost use Rattle.spur_monitor.specs.PlainBoards.{IsBegun, report_of};
+
+    /// The board of a text at its beginning. `number` is its number from 0, and `budget` is how many instructions it may
+    /// complete. Room for as many shown values is made now.
+    pub fn new(
+        alloc: Global,
+        number: u32,
+        text: BoardText,
+        budget: u32,
+    ) -> Result<Board<PlainCpu>, AllocError>
+        ensures { IfOk result (IsBegun number budget text) }
+    {
+        let BoardText { segs, code } = text;
+        let cpu = PlainCpu::new(alloc, code, budget)?;
+        Ok(Board {
+            number,
+            cpu,
+            segs,
+            retired: 0,
+            budget,
+            ended: None,
+        })
     }
 
     /// What a report says of the board.

@@ -1,88 +1,70 @@
 //! Boards over one memory, and their whole run: one instruction of each in turn.
 
-ghost use Rattle.std.specs.Prelude.{◌≡◌, ◌<◌, ◌≤◌, ◌↔◌, All, IfOk, OnOk, IsTrue, length, map};
+ghost use Rattle.std.specs.Prelude.{◌≡◌, ◌<◌, ◌≤◌, ◌↔◌, IfOk, OnOk, IsTrue, length, map};
 ghost use Rattle.spur_flat.specs.Validity.{IsValidFlat};
-ghost use Rattle.spur_monitor.specs.Boards.{report_of};
 ghost use Rattle.spur_monitor.specs.Headline.{IsRun};
-ghost use Rattle.spur_monitor.specs.Machines.{AllEnded, AreBegun, HasMoved, IsGood, IsShort};
+ghost use Rattle.spur_monitor.specs.Machines.{AllEnded, AllFresh, HasMoved, IsGood};
+ghost use Rattle.spur_monitor.specs.PlainBoards.{AreBegun, IsReportOf, report_of};
 ghost use Rattle.spur_monitor.specs.Resident.{IsAllResident};
 
-use crate::board::{BUDGET, Board};
+use crate::board::Board;
 use crate::report::{BoardReport, Report};
-use spur_asm::BoardText;
+use spur_cpu::{Cpu, PlainCpu};
 use spur_flat::{Entry, Flat};
 use spur_list::Items;
+use spur_object::BoardText;
 use std::alloc::{AllocError, Global};
 use std::snapshot::Snapshot;
 
-/// What contracts see of a machine's beginning: its texts and its first flat state. It has no bytes.
+/// A machine's beginning: the budget of each board, and what contracts see of its boards and its flat state at first,
+/// which has no bytes.
 #[derive(Drop)]
-pub struct Beginning {
-    pub boards: Snapshot<Items<BoardText>>,
+pub struct Beginning<C> {
+    pub budget: u32,
+    pub boards: Snapshot<Vec<Board<C>>>,
     pub flat: Snapshot<Flat>,
 }
 
 /// Boards over one memory, with the entries of all their accesses in the order of time.
 #[derive(Drop)]
-pub struct Machine {
-    pub boards: Vec<Board>,
+pub struct Machine<C> {
+    pub boards: Vec<Board<C>>,
     pub flat: Flat,
     pub history: Vec<Entry>,
-    pub beginning: Beginning,
+    pub beginning: Beginning<C>,
 }
 
-/// A board for each text, in their order, at its beginning.
-fn open(alloc: Global, texts: Items<BoardText>) -> Result<Vec<Board>, AllocError>
-    requires { length texts ≤ 12 }
-    ensures { IfOk result (λ boards. AreBegun texts boards.items) }
-{
-    let mut boards = Vec::new(alloc);
-    let mut number = 0;
-    for text in texts.into_vec() {
-        boards.push(Board::new(alloc, number, text))?;
-        number += 1;
-    }
-    Ok(boards)
-}
-
-/// What a report says of each board.
-fn reports(alloc: Global, boards: Vec<Board>) -> Result<Vec<BoardReport>, AllocError>
-    ensures { IfOk result (λ reports. reports.items ≡ map report_of boards.items) }
-{
-    boards.into_iter().map(Board::into_report).collect(alloc)
-}
-
-impl Machine {
-    /// The machine of these texts and this flat state, at its beginning.
-    fn begin(alloc: Global, texts: Items<BoardText>, flat: Flat) -> Result<Machine, AllocError>
+impl<C: Cpu> Machine<C> {
+    /// The machine of these boards, each with this budget, and this flat state.
+    fn begin(alloc: Global, boards: Vec<Board<C>>, flat: Flat, budget: u32) -> Machine<C>
+        requires boards { AllFresh C.meaning C.state C.room budget boards.items }
         requires valid { IsValidFlat flat }
         requires resident { IsAllResident flat }
-        requires few { length texts ≤ 12 }
-        requires code { All IsShort texts }
-        ensures good { IfOk result IsGood }
-        ensures texts { IfOk result (λ w. w.beginning.boards.value ≡ texts) }
-        ensures flat { IfOk result (λ w. w.beginning.flat.value ≡ flat) }
+        ensures good { IsGood C.meaning C.state C.room result }
+        ensures budget { result.beginning.budget ≡ budget }
+        ensures boards { result.beginning.boards.value ≡ boards }
+        ensures flat { result.beginning.flat.value ≡ flat }
     {
         let beginning = Beginning {
-            boards: Snapshot::of(&texts),
+            budget,
+            boards: Snapshot::of(&boards),
             flat: Snapshot::of(&flat),
         };
-        let boards = open(alloc, texts)?;
-        Ok(Machine {
+        Machine {
             boards,
             flat,
             history: Vec::new(alloc),
             beginning,
-        })
+        }
     }
 
     /// Does one instruction of the board with this number, if it has not ended.
     ///
     /// Room for its entry is made first: where memory is wanting, nothing is done.
     fn turn(&mut self, b: usize) -> Result<(), AllocError>
-        requires good { IsGood self.old }
+        requires good { IsGood C.meaning C.state C.room self.old }
         requires board { b < length self.old.boards.items }
-        ensures good { IsGood self.new }
+        ensures good { IsGood C.meaning C.state C.room self.new }
         ensures beginning { self.new.beginning ≡ self.old.beginning }
         ensures moved { OnOk result (HasMoved b self.old.boards.items self.new.boards.items) }
     {
@@ -108,12 +90,12 @@ impl Machine {
 
     /// Runs the boards to their ends: round after round, in each one instruction of every board that has not ended.
     fn run_to_end(&mut self) -> Result<(), AllocError>
-        requires { IsGood self.old }
-        ensures good { IsGood self.new }
+        requires { IsGood C.meaning C.state C.room self.old }
+        ensures good { IsGood C.meaning C.state C.room self.new }
         ensures beginning { self.new.beginning ≡ self.old.beginning }
         ensures ended { OnOk result (AllEnded self.new.boards.items) }
     {
-        for _round in 0..BUDGET {
+        for _round in 0..self.beginning.budget {
             if self.has_ended() {
                 return Ok(());
             }
@@ -123,12 +105,38 @@ impl Machine {
         }
         Ok(())
     }
+}
 
+/// A board for each text, in their order, at its beginning, with this budget.
+fn open(
+    alloc: Global,
+    texts: Items<BoardText>,
+    budget: u32,
+) -> Result<Vec<Board<PlainCpu>>, AllocError>
+    requires { length texts ≤ 12 }
+    ensures { IfOk result (λ boards. AreBegun budget texts boards.items) }
+{
+    let mut boards = Vec::new(alloc);
+    let mut number = 0;
+    for text in texts.into_vec() {
+        let board = Board::new(alloc, number, text, budget)?;
+        boards.push(board)?;
+        number += 1;
+    }
+    Ok(boards)
+}
+
+/// What a report says of each board.
+fn reports(alloc: Global, boards: Vec<Board<PlainCpu>>) -> Result<Vec<BoardReport>, AllocError>
+    ensures { IfOk result (λ reports. reports.items ≡ map report_of boards.items) }
+{
+    boards.into_iter().map(Board::into_report).collect(alloc)
+}
+
+impl Machine<PlainCpu> {
     /// What came of the run.
     fn into_report(self, alloc: Global) -> Result<Report, AllocError>
-        requires good { IsGood self }
-        requires ended { AllEnded self.boards.items }
-        ensures { IfOk result (IsRun self.beginning.boards.value self.beginning.flat.value) }
+        ensures { IfOk result (IsReportOf self) }
     {
         Ok(Report {
             boards: Items::from_vec(reports(alloc, self.boards)?),
@@ -139,18 +147,26 @@ impl Machine {
 }
 
 /// Runs the boards of a unit over a flat memory, each to its end: one instruction of each in turn, ascending, round
-/// after round. The order is this project's own profile.
+/// after round, without those that have ended. A board ends at the latest with the instruction that meets the budget: by
+/// then it has completed `budget` instructions. The order and the budget are this project's own profile.
 ///
-/// It needs a valid flat state in which every declared page is resident, at most 12 boards, and programs of at most 4096
-/// instructions. Want of memory is the only error.
-pub fn run(alloc: Global, boards: Items<BoardText>, flat: Flat) -> Result<Report, AllocError>
+/// It needs a valid flat state in which every declared page is resident, at most 12 boards, and a budget of at least 1.
+/// Want of memory is the only error.
+pub fn run(
+    alloc: Global,
+    boards: Items<BoardText>,
+    flat: Flat,
+    budget: u32,
+) -> Result<Report, AllocError>
     requires valid { IsValidFlat flat }
     requires resident { IsAllResident flat }
     requires few { length boards ≤ 12 }
-    requires code { All IsShort boards }
-    ensures { IfOk result (IsRun boards flat) }
+    requires some_budget { 0 < budget }
+    ensures { IfOk result (IsRun budget boards flat) }
 {
-    let mut machine = Machine::begin(alloc, boards, flat)?;
+    let opened = open(alloc, boards, budget)?;
+    let mut machine = Machine::begin(alloc, opened, flat, budget);
     machine.run_to_end()?;
-    machine.into_report(alloc)
+    let report = machine.into_report(alloc)?;
+    Ok(report)
 }

@@ -1,16 +1,13 @@
-//! The program `spur`: it reads an assembly text from standard input, runs its board, and writes the board's outcome and
+//! The program `spur`: it reads an assembly text from standard input, runs its boards, and writes each board's outcome and
 //! registers to standard output.
 //!
 //! `main` only joins the top call to the process: its words, its standard streams and its exit status.
 #![tactic(auto)]
 
 mod board;
-mod cpu;
 mod machine;
 mod opening;
-mod plain;
 mod report;
-mod step;
 #[cfg(test)]
 mod tests;
 mod text;
@@ -27,7 +24,7 @@ use top::spur_alone;
 
 /// What `--help` writes.
 const HELP: &[u8] =
-    b"usage: spur run < TEXT\n\nReads an assembly text from standard input, runs its board on flat memory with a page table, and writes\nthe board's outcome and registers. spur --help and spur --version tell of the program.\n\nexit status: 0 the board halted, 1 it ended otherwise, 2 words refused, 3 input refused, 4 the input\ncannot be read, 5 the output cannot be written, 9 out of memory\n";
+    b"usage: spur run [--budget N] < TEXT\n\nReads an assembly text from standard input, runs its boards on flat memory with a page table, and writes\neach board's outcome and registers. spur --help and spur --version tell of the program.\n\n--budget N   how many instructions each board may complete, 1 to 250000; without it 100000\n\nexit status: 0 every board halted, 1 some board ended otherwise, 2 words refused, 3 input refused, 4 the\ninput cannot be read, 5 the output cannot be written, 9 out of memory\n";
 
 /// What `--version` writes.
 const VERSION: &[u8] = b"spur 0.1.0\n";

@@ -11,9 +11,9 @@ ghost use Rattle.spur_monitor.specs.Openable.{ArePagesOfUnit, AreWordsOfUnit, Is
 ghost use Rattle.spur_monitor.specs.Resident.{IsAllResident};
 
 use spur_addr::{GlobalAddr, Protection, Pte};
-use spur_asm::{PageText, Unit, WordText};
 use spur_flat::Flat;
 use spur_list::Items;
+use spur_object::{PageText, Unit, WordText};
 use std::alloc::{AllocError, Global};
 
 /// How many words of 4 bytes a frame has, and a page.

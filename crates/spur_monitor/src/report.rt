@@ -15,6 +15,8 @@ pub enum Ending {
     /// An access was answered by a fault that ends its board: `kind` is one of Align, Unmapped and Protection, and
     /// `at` is the global byte address of the access.
     Faulted { kind: FaultKind, at: GlobalAddr },
+    /// It completed as many instructions as its budget has, and the last of them was no `halt`.
+    Spent,
 }
 
 /// What a report says of one board.
@@ -82,7 +84,6 @@ impl Status {
 pub struct Outcome {
     /// How the call ended.
     pub status: Status,
-    /// What came of the run: given where the text was run, also where its report could not be written, or memory was
-    /// wanting for its text.
+    /// What came of the run: given where the text was run and its report was written or begun to be written.
     pub report: Option<Report>,
 }

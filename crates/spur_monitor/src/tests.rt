@@ -1,6 +1,6 @@
 //! The program as a whole, on texts whose reports were worked out by hand.
 
-use crate::report::Status;
+use crate::report::{Ending, Report, Status};
 use crate::top::spur_alone;
 use spur_io::{SinkMemory, SinkSure, SourceMemory, SourceSure};
 use std::alloc::{AllocError, Global};
@@ -18,6 +18,8 @@ const RUN: &[&str] = &["run"];
 
 const SUM: &[u8] =
     b".page 0 0 rw\n.word 0 64 41\n.board\nld r1, 64(r0)\naddi r1, r1, 1\nst r1, 64(r0)\nhalt\n";
+
+const THREE: &[u8] = b".board\nli r1, 7\nli r2, 9\nhalt\n";
 
 const ROWS: &[Row] = &[
     // 41 is loaded, 1 is added, and the sum is stored.
@@ -83,7 +85,14 @@ const ROWS: &[Row] = &[
         status: Status::Ended,
         written: b"board 0 faulted protection 0000000000 retired 0\nregs 0 00000000 00000000 00000000 00000000 00000000 00000000 00000000 00000000 00000000 00000000 00000000 00000000 00000000 00000000 00000000 00000000\n",
     },
-    // Texts that are not of the form: the empty one, and one whose last line has no line feed.
+    // Two boards: the first is stopped by a page that may only be read, and the second goes on.
+    Row {
+        words: RUN,
+        text: b".page 0 0 ro\n.board\nld r1, 64(r0)\nst r1, 64(r0)\n.board\nhalt\n",
+        status: Status::Ended,
+        written: b"board 0 faulted protection 0000000040 retired 1\nregs 0 00000000 00000000 00000000 00000000 00000000 00000000 00000000 00000000 00000000 00000000 00000000 00000000 00000000 00000000 00000000 00000000\nboard 1 halted retired 1\nregs 1 00000000 00000000 00000000 00000000 00000000 00000000 00000000 00000000 00000000 00000000 00000000 00000000 00000000 00000000 00000000 00000000\n",
+    },
+    // A text without a board, and one whose label is nowhere.
     Row {
         words: RUN,
         text: b"",
@@ -92,9 +101,55 @@ const ROWS: &[Row] = &[
     },
     Row {
         words: RUN,
-        text: b".board\nhalt",
+        text: b".board\njmp on\nhalt\n",
         status: Status::Input,
         written: b"refused: not yet\n",
+    },
+    // Labels, comments, blanks of all kinds, hexadecimal numbers, and a last line without its line feed.
+    Row {
+        words: RUN,
+        text: b"; nothing\n\n \t.board\r\n.seg 0 1 2 0x3\nfirst : li r1,0x10 ; 16\nshow r1\nbeq r0, r0, end\nlih r1, 1\nend:\n  halt",
+        status: Status::Fine,
+        written: b"board 0 halted retired 4\nregs 0 00000000 00000010 00000000 00000000 00000000 00000000 00000000 00000000 00000000 00000000 00000000 00000000 00000000 00000000 00000000 00000000\nshown 0 16\n",
+    },
+    // A program without an end is ended by its budget.
+    Row {
+        words: &["run", "--budget", "3"],
+        text: b".board\nagain: nop\njmp again\n",
+        status: Status::Ended,
+        written: b"board 0 spent retired 3\nregs 0 00000000 00000000 00000000 00000000 00000000 00000000 00000000 00000000 00000000 00000000 00000000 00000000 00000000 00000000 00000000 00000000\n",
+    },
+    Row {
+        words: &["run", "--budget", "3"],
+        text: b".board\nnop\nnop\nhalt\n",
+        status: Status::Fine,
+        written: b"board 0 halted retired 3\nregs 0 00000000 00000000 00000000 00000000 00000000 00000000 00000000 00000000 00000000 00000000 00000000 00000000 00000000 00000000 00000000 00000000\n",
+    },
+    // A `halt` that meets the budget is a halt; a budget that is met before it ends the board there.
+    Row {
+        words: &["run", "--budget", "3"],
+        text: THREE,
+        status: Status::Fine,
+        written: b"board 0 halted retired 3\nregs 0 00000000 00000007 00000009 00000000 00000000 00000000 00000000 00000000 00000000 00000000 00000000 00000000 00000000 00000000 00000000 00000000\n",
+    },
+    Row {
+        words: &["run", "--budget", "2"],
+        text: THREE,
+        status: Status::Ended,
+        written: b"board 0 spent retired 2\nregs 0 00000000 00000007 00000009 00000000 00000000 00000000 00000000 00000000 00000000 00000000 00000000 00000000 00000000 00000000 00000000 00000000\n",
+    },
+    // An access that meets the budget is done first; one that faults counts nothing.
+    Row {
+        words: &["run", "--budget", "1"],
+        text: SUM,
+        status: Status::Ended,
+        written: b"board 0 spent retired 1\nregs 0 00000000 00000029 00000000 00000000 00000000 00000000 00000000 00000000 00000000 00000000 00000000 00000000 00000000 00000000 00000000 00000000\n",
+    },
+    Row {
+        words: &["run", "--budget", "1"],
+        text: b".board\nld r1, 2(r0)\n",
+        status: Status::Ended,
+        written: b"board 0 faulted align 0000000002 retired 0\nregs 0 00000000 00000000 00000000 00000000 00000000 00000000 00000000 00000000 00000000 00000000 00000000 00000000 00000000 00000000 00000000 00000000\n",
     },
     // Words that are not of the table.
     Row {
@@ -110,10 +165,16 @@ const ROWS: &[Row] = &[
         written: b"refused: word 2\n",
     },
     Row {
-        words: &["walk"],
+        words: &["run", "--budget", "0"],
         text: SUM,
         status: Status::Words,
-        written: b"refused: word 1\n",
+        written: b"refused: word 3\n",
+    },
+    Row {
+        words: &["run", "--budget", "5", "--budget", "6"],
+        text: SUM,
+        status: Status::Words,
+        written: b"refused: word 4\n",
     },
 ];
 
@@ -177,5 +238,91 @@ fn one_byte_too_many_is_refused(rt: HostRuntime) -> Result<(), Fail> {
         sink.bytes(),
         b"refused: more than 1048576 bytes\n".as_slice()
     );
+    Ok(())
+}
+
+/// A board that tries to take 64 words by test-and-set, and shows how many it took.
+const TAKER: &[u8] =
+    b".board\nli r4, 256\nnext: tas r2, 0(r1)\nbne r2, r0, skip\naddi r3, r3, 1\nskip: addi r1, r1, 4\nbne r1, r4, next\nshow r3\nhalt\n";
+
+/// Four boards that take the same words.
+fn takers(alloc: Global) -> Result<Vec<u8>, AllocError> {
+    let mut text = b".page 0 0 rw\n".to_vec(alloc)?;
+    for _ in 0..4u32 {
+        text.extend_from_slice(TAKER)?;
+    }
+    Ok(text)
+}
+
+/// The numbers from 0 to 12, as a text has them.
+const NUMBERS: [&[u8]; 13] = [
+    b"0", b"1", b"2", b"3", b"4", b"5", b"6", b"7", b"8", b"9", b"10", b"11", b"12",
+];
+
+const ADD: &[u8] =
+    b"\nli r2, 12\nshl r1, r1, r2\nld r3, 0(r0)\nld r4, 4(r0)\nadd r3, r3, r4\nld r4, 8(r0)\nadd r3, r3, r4\nld r4, 12(r0)\nadd r3, r3, r4\naddi r3, r3, ";
+
+/// Twelve boards: the one of number i adds i and the words 1, 2, 3 and 4 of a page that all may read, stores the sum in a
+/// page of its own, loads it again and shows it.
+fn adders(alloc: Global) -> Result<Vec<u8>, AllocError> {
+    let mut text = b".page 0 0 ro\n.word 0 0 1\n.word 0 4 2\n.word 0 8 3\n.word 0 12 4\n".to_vec(
+        alloc,
+    )?;
+    for i in 0..12usize {
+        let own = NUMBERS[i + 1];
+        for part in [
+            b".page 0 ".as_slice(),
+            own,
+            b" rw\n.board\nli r1, ",
+            own,
+            ADD,
+            NUMBERS[i],
+        ] {
+            text.extend_from_slice(part)?;
+        }
+        text.extend_from_slice(b"\nst r3, 0(r1)\nld r5, 0(r1)\nshow r5\nhalt\n")?;
+    }
+    Ok(text)
+}
+
+/// The report on a text that is run.
+fn report_of(alloc: Global, text: Vec<u8>) -> Result<Option<Report>, AllocError> {
+    let words = words_of(alloc, RUN)?;
+    let mut sink = SinkSure::new(alloc, 4096)?;
+    Ok(spur_alone(alloc, &words, &mut SourceSure::new(text), &mut sink).report)
+}
+
+#[test]
+fn four_boards_take_each_word_once(rt: HostRuntime) -> Result<(), Fail> {
+    let alloc = rt.alloc();
+    let Some(report) = report_of(alloc, takers(alloc)?)? else {
+        return Err(Fail::from("a report"));
+    };
+    let boards = report.boards.as_slice();
+    assert_eq!(rt; boards.len(), 4);
+    let mut taken = 0u32;
+    for board in boards {
+        assert_eq!(rt; board.ending, Some(Ending::Halted));
+        let shown = board.shown.as_slice();
+        assert_eq!(rt; shown.len(), 1);
+        taken = taken.wrapping_add(shown[0]);
+    }
+    assert_eq!(rt; taken, 64);
+    Ok(())
+}
+
+#[test]
+fn twelve_boards_have_their_own_sums(rt: HostRuntime) -> Result<(), Fail> {
+    let alloc = rt.alloc();
+    let Some(report) = report_of(alloc, adders(alloc)?)? else {
+        return Err(Fail::from("a report"));
+    };
+    let boards = report.boards.as_slice();
+    assert_eq!(rt; boards.len(), 12);
+    for (board, sum) in boards.iter().zip(10u32..22) {
+        assert_eq!(rt; board.ending, Some(Ending::Halted));
+        assert_eq!(rt; board.retired, 15);
+        assert_eq!(rt; board.shown.as_slice(), [sum].as_slice());
+    }
     Ok(())
 }

@@ -89,6 +89,7 @@ fn put_ending(out: &mut Vec<u8>, ending: Option<Ending>) -> Result<(), AllocErro
     match ending {
         Ending::Halted => put(out, b"halted"),
         Ending::Faulted { kind, at } => put_fault(out, kind, at),
+        Ending::Spent => put(out, b"spent"),
     }
 }
 
@@ -266,6 +267,14 @@ mod tests {
                 0x2a,
                 "board 0 halted retired 4\n\
                  regs 0 00000000 0000002a 00000000 00000000 00000000 00000000 00000000 00000000 \
+                 00000000 00000000 00000000 00000000 00000000 00000000 00000000 00000000\n",
+            ),
+            (
+                Some(Ending::Spent),
+                250000,
+                1,
+                "board 0 spent retired 250000\n\
+                 regs 0 00000000 00000001 00000000 00000000 00000000 00000000 00000000 00000000 \
                  00000000 00000000 00000000 00000000 00000000 00000000 00000000 00000000\n",
             ),
             (

@@ -1,22 +1,23 @@
 //! The top call: all that the program does.
-ghost use Rattle.std.specs.Prelude.{true, false, [], IsSome, ◌≡◌, ◌≢◌, ◌≤◌, ◌<◌, ◌-◌, ◌^◌, Err, IfOk, IfSome, None, Option, Some, length};
+ghost use Rattle.std.specs.Prelude.{true, false, [], IsSome, ◌≡◌, ◌≢◌, ◌≤◌, ◌<◌, ◌-◌, ◌^◌, Err, Ok, IfOk, IfSome, None, Option, Some, length};
 ghost use Rattle.spur_io.specs.Faults.{Rose};
 ghost use Rattle.spur_io.specs.Told.{Gains};
 ghost use Rattle.spur_asm.specs.Says.{Says};
-ghost use Rattle.spur_asm.specs.declared.unit.Unit.{Unit as Program};
+ghost use Rattle.spur_object.specs.declared.unit.Unit.{Unit as Program};
 ghost use Rattle.std.specs.List.{list_all};
-ghost use Rattle.spur_monitor.specs.Words.{bad_word, texts};
-ghost use Rattle.spur_monitor.specs.Texts.{report_text};
-ghost use Rattle.spur_monitor.specs.Answer.{AnswersWords, HasReadFault, InputAnswered, InputRefused, IsComplete, IsHeadline, IsRunOf, IsWritten, MayReport, ReportsHalted, Way, has_halted};
+ghost use Rattle.spur_monitor.specs.Words.{options_of, texts};
+ghost use Rattle.spur_monitor.specs.Texts.{report_text, words_line};
+ghost use Rattle.spur_monitor.specs.Answer.{AnswersWords, HasReadFault, InputAnswered, InputRefused, IsComplete, IsHeadline, IsKept, IsRunOf, IsWritten, MayReport, ReportsHalted, Way, has_halted};
 ghost use Rattle.spur_monitor.specs.Answer.{status_of as run_status};
 
 use crate::machine::run;
 use crate::opening::open;
 use crate::report::{BoardReport, Ending, Outcome, Report, Status};
 use crate::text;
-use crate::words::first_bad_word;
-use spur_asm::{AsmFault, Unit, assemble};
+use crate::words::{Options, options_of};
+use spur_asm::{AsmFault, assemble};
 use spur_io::{ReadAll, Sink, Source, put_all, read_all};
+use spur_object::Unit;
 use std::alloc::{AllocError, Global};
 
 /// The most bytes of an input.
@@ -88,9 +89,10 @@ fn silent(status: Status) -> Outcome
 }
 
 /// Assembles a text, opens the memory of its unit and runs its boards.
-fn report_of(alloc: Global, input: &[u8]) -> Result<Report, AsmFault>
-    requires { length input.now < 2 ^ 32 - 1 }
-    ensures ok { IfOk result (IsRunOf input.now) }
+fn report_of(alloc: Global, input: &[u8], options: Options) -> Result<Report, AsmFault>
+    requires size { length input.now < 2 ^ 32 - 1 }
+    requires budget { 0 < options.budget }
+    ensures ok { IfOk result (IsRunOf options input.now) }
     ensures not_yet { result ≡ Err AsmFault.NotYet → (unit : Program) → Says input.now unit → ⊥ }
 {
     let unit = match assemble(alloc, input) {
@@ -102,7 +104,7 @@ fn report_of(alloc: Global, input: &[u8]) -> Result<Report, AsmFault>
         Err(AllocError) => return Err(AsmFault::NoMemory),
     };
     let Unit { boards, .. } = unit;
-    match run(alloc, boards, flat) {
+    match run(alloc, boards, flat, options.budget) {
         Ok(report) => Ok(report),
         Err(AllocError) => Err(AsmFault::NoMemory),
     }
@@ -125,15 +127,29 @@ fn tell<K: Sink>(alloc: Global, sink: &mut K, report: Report) -> Outcome
 }
 
 /// What is done with an input that was read whole.
-fn answer_input<K: Sink>(alloc: Global, input: &[u8], sink: &mut K) -> Outcome
-    requires { length input.now < 2 ^ 32 - 1 }
-    ensures answered { InputAnswered input.now result (K.written sink.old) (K.written sink.new) }
+fn answer_input<K: Sink>(alloc: Global, input: &[u8], options: Options, sink: &mut K) -> Outcome
+    requires size { length input.now < 2 ^ 32 - 1 }
+    requires budget { 0 < options.budget }
+    ensures answered { InputAnswered options input.now result (K.written sink.old) (K.written sink.new) }
     ensures write { result.status ≡ Status.WriteFault → Rose (K.faults sink.old) (K.faults sink.new) }
 {
-    match report_of(alloc, input) {
+    match report_of(alloc, input, options) {
         Ok(report) => tell(alloc, sink, report),
         Err(AsmFault::NotYet) => refuse(sink, text::not_yet_line(), Status::Input),
         Err(AsmFault::NoMemory) => silent(Status::NoMemory),
+    }
+}
+
+/// The refusal of a word of the command line, by its number. Want of memory for its line leaves nothing written.
+fn refuse_words<K: Sink>(alloc: Global, number: u32, sink: &mut K) -> Outcome
+    ensures written { IsWritten (words_line number) Status.Words result.status (K.written sink.old) (K.written sink.new) }
+    ensures report { result.report ≡ None }
+    ensures read { result.status ≢ Status.ReadFault }
+    ensures write { result.status ≡ Status.WriteFault → Rose (K.faults sink.old) (K.faults sink.new) }
+{
+    match text::words_line(alloc, number) {
+        Ok(line) => refuse(sink, line.as_slice(), Status::Words),
+        Err(AllocError) => silent(Status::NoMemory),
     }
 }
 
@@ -148,14 +164,12 @@ fn answer<S: Source, K: Sink>(
     ensures read { result.status ≡ Status.ReadFault → Rose (S.faults source.old) (S.faults source.new) }
     ensures write { result.status ≡ Status.WriteFault → Rose (K.faults sink.old) (K.faults sink.new) }
 {
-    if let Some(number) = first_bad_word(words) {
-        return match text::words_line(alloc, number) {
-            Ok(line) => refuse(sink, line.as_slice(), Status::Words),
-            Err(AllocError) => silent(Status::NoMemory),
-        };
-    }
+    let options = match options_of(words) {
+        Ok(options) => options,
+        Err(number) => return refuse_words(alloc, number, sink),
+    };
     match read_all(alloc, source, INPUT_LIMIT) {
-        Ok(input) => answer_input(alloc, input.as_slice(), sink),
+        Ok(input) => answer_input(alloc, input.as_slice(), options, sink),
         Err(ReadAll::TooLong) => refuse(sink, text::too_long_line(), Status::Input),
         Err(ReadAll::ReadFault) => silent(Status::ReadFault),
         Err(ReadAll::NoMemory) => silent(Status::NoMemory),
@@ -163,7 +177,7 @@ fn answer<S: Source, K: Sink>(
 }
 
 /// All that the program does, with the words after its name: reads an assembly text from the source, assembles it, runs
-/// its board, and writes the board's outcome and registers, or one line that says why the words or the text are refused.
+/// its boards, and writes each board's outcome and registers, or one line that says why the words or the text are refused.
 ///
 /// The order is: words, reading, the text's length, its form, the run, writing. The text is built whole before the first
 /// byte is put. Nothing is written after a fault in reading, nor after want of memory.
@@ -180,13 +194,15 @@ pub fn spur_alone<S: Source, K: Sink>(
     // The call ends in one of six ways, and each says what was found and what is answered there.
     ensures way { Way (texts words.now) (S.left source.old) (S.left source.new) (K.written sink.old) (K.written sink.new) result }
 
-    // When a report is given: always where all boards were run to their ends and the report was put.
+    // When a report is given: always where all boards were run to their ends and the report was put, and where writing failed
+    // behind words and an input that are accepted.
+    ensures kept { result.status ≡ Status.WriteFault → IsKept (texts words.now) (S.left source.old) result }
     ensures reported { IsSome result.report → MayReport result.status }
     ensures fine { result.status ≡ Status.Fine → ReportsHalted true result }
     ensures ended { result.status ≡ Status.Ended → ReportsHalted false result }
 
     // The words are refused exactly where they are not of the table; the input only where it is too long or of no form.
-    ensures refused_words { AnswersWords (bad_word (texts words.now)) (K.written sink.old) (K.written sink.new) result }
+    ensures refused_words { AnswersWords (options_of (texts words.now)) (K.written sink.old) (K.written sink.new) result }
     ensures refused_input { result.status ≡ Status.Input → InputRefused (S.left source.old) (S.left source.new) (K.written sink.old) (K.written sink.new) }
 
     // Reading and writing failed only where the count of the source or of the sink rose.

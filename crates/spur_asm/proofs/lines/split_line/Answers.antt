@@ -1,7 +1,7 @@
 use Rattle.std.proofs.Common.{◌≡◌, sym, length, arith}
 use Rattle.std.specs.List.{position_or_len}
 use Rattle.std.proofs.lemmas.Grind.{common_steps}
-use Rattle.spur_asm.specs.Text.{is_feed}
+use Rattle.spur_asm.specs.Bytes.{is_feed}
 use Rattle.spur_asm.proofs.FirstFacts.{position_or_len-Some, position_or_len-None}
 use Rattle.spur_asm.proofs.lines.split_line.Goals as goal
 

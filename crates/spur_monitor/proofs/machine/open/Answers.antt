@@ -1,6 +1,6 @@
 use Rattle.std.proofs.Common.{◌≡◌, ◌+◌, ◌++◌, ◌∷◌, [], length, arith, subst, ℕ}
 use Rattle.std.proofs.lemmas.List.{length-append}
-use Rattle.spur_monitor.specs.Boards.{IsBegun}
+use Rattle.spur_monitor.specs.PlainBoards.{IsBegun}
 use Rattle.spur_monitor.proofs.Opened.{begun_more}
 use Rattle.spur_monitor.proofs.machine.open.Goals as goal
 
@@ -9,6 +9,6 @@ loop-text-preserved c =
     let counted : c.loop-text.number + 1 ≡ length (c.loop-text.yielded ++ c.in-Some.text ∷ []) = (let e = length-append c.loop-text.yielded (c.in-Some.text ∷ []) in let n = c.loop-text.invariant.counted in omega arith) in
     record {
       counted = counted;
-      begun = begun_more c.loop-text.yielded c.in-Some.text c.loop-text.boards.items c.push.new.self.items c.new.result c.loop-text.invariant.begun
-          (subst (λ (n : ℕ). IsBegun n c.in-Some.text c.new.result) c.loop-text.invariant.counted c.new.ensures) c.in_ok-push.ensures.items;
+      begun = begun_more c.args.budget c.loop-text.yielded c.in-Some.text c.loop-text.boards.items c.push.new.self.items c.in_ok-board.board c.loop-text.invariant.begun
+          (subst (λ (n : ℕ). IsBegun n c.args.budget c.in-Some.text c.in_ok-board.board) c.loop-text.invariant.counted c.in_ok-board.ensures) c.in_ok-push.ensures.items;
     }

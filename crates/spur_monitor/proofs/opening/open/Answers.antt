@@ -1,8 +1,8 @@
 -- The parts are built, and put one behind another.
 use Rattle.std.specs.List.{All}
 use Rattle.std.proofs.Common.{◌≡◌, ◌<◌, ◌+◌, ◌*◌, ◌≤◌, ℕ, List, rules, length, arith, ap, sym, ◌∙◌, subst}
-use Rattle.spur_asm.specs.declared.unit.PageText.{PageText}
-use Rattle.spur_asm.specs.declared.unit.WordText.{WordText}
+use Rattle.spur_object.specs.declared.unit.PageText.{PageText}
+use Rattle.spur_object.specs.declared.unit.WordText.{WordText}
 use Rattle.spur_monitor.specs.Opening.{AreRoots, page_numbers}
 use Rattle.spur_monitor.specs.OpeningParts.{IsRootTable, IsPageTable, HoldsPages}
 use Rattle.spur_monitor.proofs.OpeningLoops.{roots_within}

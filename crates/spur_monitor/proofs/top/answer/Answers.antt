@@ -1,24 +1,32 @@
-use Rattle.std.proofs.Common.{rules, sym, ap, ◌∙◌, ◌≤◌, length, vec_len, arith}
+use Rattle.std.proofs.Common.{rules, sym, ◌∙◌, ◌≤◌, ◌≡◌, length, vec_len, arith, Ok}
 use Rattle.spur_monitor.specs.Headline.{input_limit}
-use Rattle.spur_monitor.specs.declared.report.Outcome.{Outcome}
-use Rattle.spur_monitor.specs.Answer.{BadWords}
-use Rattle.spur_monitor.proofs.WayFacts.{loses-none, whole_of, written_as, not_written, read_whole}
+use Rattle.spur_monitor.specs.Words.{options_of, texts}
+use Rattle.spur_monitor.specs.Answer.{BadWords, NotRead, TooLong, Wanting}
+use Rattle.spur_monitor.proofs.WayFacts.{loses-none, whole_of, read_whole}
+use Rattle.spur_monitor.proofs.WordFacts.{budget-some}
 use Rattle.spur_monitor.proofs.top.answer.Goals as goal
-
-pub returns-in-Ok-clause-way : goal.returns-in-Ok-clause-way
-returns-in-Ok-clause-way g c =
-    BadWords c.in-Some.number (sym c.in-Some.ensures) (loses-none _) c.refuse.ensures.report
-    (written_as _ _ _ _ _ _ (c.as_slice.ensures.value ∙ c.in-Ok.ensures) c.refuse.ensures.written)
 
 pub returns-in-Err-clause-way : goal.returns-in-Err-clause-way
 returns-in-Err-clause-way g c =
-    BadWords c.in-Some.number (sym c.in-Some.ensures) (loses-none _) (ap (λ (o : Outcome). o.report) c.silent.ensures)
-    (not_written _ _ _ _ (ap (λ (o : Outcome). o.status) c.silent.ensures))
+    BadWords c.in-Err.number (sym c.options_of.ensures ∙ c.in-Err.is) (loses-none _) c.refuse_words.ensures.report c.refuse_words.ensures.written
+
+pub answer_input-requires-clause-budget : goal.answer_input-requires-clause-budget
+answer_input-requires-clause-budget g c = budget-some (texts c.args.words.now) c.in-Ok.options (sym c.options_of.ensures ∙ c.in-Ok.is)
 
 pub returns-in-Ok-read_all-clause-way : goal.returns-in-Ok-read_all-clause-way
 returns-in-Ok-read_all-clause-way g c =
+    let command : options_of (texts c.args.words.now) ≡ Ok c.in-Ok.options = sym c.options_of.ensures ∙ c.in-Ok.is in
     let within : vec_len c.in-Ok-read_all.input ≤ input_limit = c.in-Ok-read_all.ensures.within in
-    let short : length c.as_slice-in-Ok-read_all.result.now ≤ input_limit = omega arith in
-    read_whole _ _ _ _ _ _ _ (search rules)
-    (whole_of _ _ _ _ c.as_slice-in-Ok-read_all.ensures.value c.in-Ok-read_all.ensures.whole c.in-Ok-read_all.ensures.end)
+    let short : length c.as_slice.result.now ≤ input_limit = omega arith in
+    read_whole _ _ _ _ _ _ _ _ command
+    (whole_of _ _ _ _ c.as_slice.ensures.value c.in-Ok-read_all.ensures.whole c.in-Ok-read_all.ensures.end)
     short c.answer_input.ensures.answered
+
+pub returns-in-Err-TooLong-clause-way : goal.returns-in-Err-TooLong-clause-way
+returns-in-Err-TooLong-clause-way g c = TooLong c.in-Ok.options (sym c.options_of.ensures ∙ c.in-Ok.is) (search rules) (search rules) (search rules)
+
+pub returns-in-Err-ReadFault-clause-way : goal.returns-in-Err-ReadFault-clause-way
+returns-in-Err-ReadFault-clause-way g c = NotRead c.in-Ok.options (sym c.options_of.ensures ∙ c.in-Ok.is) (search rules) (search rules) (search rules) (search rules)
+
+pub returns-in-Err-NoMemory-clause-way : goal.returns-in-Err-NoMemory-clause-way
+returns-in-Err-NoMemory-clause-way g c = Wanting c.in-Ok.options (sym c.options_of.ensures ∙ c.in-Ok.is) (search rules) (search rules) (search rules)

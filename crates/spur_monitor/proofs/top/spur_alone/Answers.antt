@@ -1,4 +1,4 @@
-use Rattle.spur_monitor.proofs.AnswerFacts.{fine_reports, ended_reports, input_refused, answers_words, complete}
+use Rattle.spur_monitor.proofs.AnswerFacts.{fine_reports, ended_reports, input_refused, answers_words, complete, kept}
 use Rattle.spur_monitor.proofs.top.spur_alone.Goals as goal
 
 pub returns-clause-fine : goal.returns-clause-fine
@@ -16,3 +16,6 @@ returns-clause-refused_input g c = input_refused _ _ _ _ _ _ c.answer-outcome.en
 pub returns-clause-complete : goal.returns-clause-complete
 returns-clause-complete g c = λ no_read no_write. complete _ _ _ _ _ _ c.answer-outcome.ensures.way
     (λ is. no_read (c.answer-outcome.ensures.read is)) (λ is. no_write (c.answer-outcome.ensures.write is))
+
+pub returns-clause-kept : goal.returns-clause-kept
+returns-clause-kept g c = kept _ _ _ _ _ _ c.answer-outcome.ensures.way

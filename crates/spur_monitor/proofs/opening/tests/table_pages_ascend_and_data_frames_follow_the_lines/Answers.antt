@@ -4,8 +4,8 @@ use Rattle.std.proofs.Common.{◌≡◌, ℕ, ◌%◌, ◌<◌, List, [], ◌∷
 use Rattle.std.proofs.lemmas.List.Elements.{All-nil, All-cons}
 use Rattle.spur_addr.specs.Address.{page_of}
 use Rattle.spur_addr.specs.declared.page_entry.Protection.TheVariants.{ReadOnly, ReadWrite}
-use Rattle.spur_asm.specs.declared.unit.PageText.{PageText}
-use Rattle.spur_asm.specs.declared.unit.WordText.{WordText}
+use Rattle.spur_object.specs.declared.unit.PageText.{PageText}
+use Rattle.spur_object.specs.declared.unit.WordText.{WordText}
 use Rattle.spur_monitor.specs.Openable.{AreWordsOfUnit}
 use Rattle.spur_monitor.proofs.opening.tests.table_pages_ascend_and_data_frames_follow_the_lines.Goals as goal
 

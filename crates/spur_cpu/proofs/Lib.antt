@@ -1,0 +1,4 @@
+pub mod Afters
+pub mod Led
+pub mod Going
+pub mod Zeros

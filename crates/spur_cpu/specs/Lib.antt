@@ -1,0 +1,9 @@
+pub mod Meaning
+pub mod Registers
+pub mod Steps
+pub mod Plain
+pub mod PlainCpus
+pub mod PlainLaws
+pub mod After
+pub mod Laws
+pub mod ZeroRegister
