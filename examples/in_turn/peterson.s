@@ -2,7 +2,7 @@
 ;
 ;   word at 0    1 where board 0 wants to enter
 ;   word at 32   1 where board 1 wants to enter
-;   word at 64   the board that has to wait while both want to: the one that said so last lets the other go first
+;   word at 64   the board that goes first while both want to: each stores the other's number, so the one that stored last waits
 ;   word at 96   the counter
 ;
 ; The retired numbers hold where the boards take one instruction each in turn. Each board completes 2 `li`, 8 instructions for
