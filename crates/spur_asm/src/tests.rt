@@ -3,7 +3,7 @@
 use crate::{AsmFault, assemble};
 use spur_addr::Protection;
 use spur_isa::encode;
-use spur_object::{BoardText, PageText, Unit, WordText};
+use spur_object::{BoardText, PageText, Unit};
 use std::alloc::{AllocError, Global};
 use std::test::Fail;
 
@@ -50,6 +50,15 @@ fn joined(alloc: Global, one: &[u8], other: &[u8]) -> Result<Vec<u8>, AllocError
     let mut text = Vec::from_slice(alloc, one)?;
     text.extend_from_slice(other)?;
     Ok(text)
+}
+
+/// Asks that a text is not understood.
+fn refused(alloc: Global, text: &[u8]) -> Result<(), Fail> {
+    match assemble(alloc, text) {
+        Err(AsmFault::NotYet) => Ok(()),
+        Err(AsmFault::NoMemory) => Err(Fail::from("memory is wanting")),
+        Ok(_) => Err(Fail::from("a text was understood")),
+    }
 }
 
 #[test]
@@ -244,13 +253,13 @@ fn limits_are_reached_and_not_passed(rt: HostRuntime) -> Result<(), Fail> {
     let unit = assemble(rt.alloc(), boards.as_slice())?;
     assert_eq!(rt; unit.boards.len(), 12);
     let boards = repeated(rt.alloc(), b".board\n", 13)?;
-    assert_eq!(rt; assemble(rt.alloc(), boards.as_slice()).is_err(), true);
+    refused(rt.alloc(), boards.as_slice())?;
     let nops = repeated(rt.alloc(), b"nop\n", 4096)?;
     let full = joined(rt.alloc(), b".board\n", nops.as_slice())?;
     let unit = assemble(rt.alloc(), full.as_slice())?;
     assert_eq!(rt; unit.boards.len(), 1);
     let past = joined(rt.alloc(), full.as_slice(), b"nop\n")?;
-    assert_eq!(rt; assemble(rt.alloc(), past.as_slice()).is_err(), true);
+    refused(rt.alloc(), past.as_slice())?;
     for (length, fits) in [(64, true), (65, false)] {
         let name = repeated(rt.alloc(), b"n", length)?;
         let text = joined(rt.alloc(), b".board\n", name.as_slice())?;
@@ -303,10 +312,7 @@ fn what_is_not_understood(rt: HostRuntime) -> Result<(), Fail> {
         b".board\n.seg 1 2 3 255\n".as_slice(),
     ];
     for text in rows {
-        match assemble(rt.alloc(), text) {
-            Err(fault) => assert_eq!(rt; fault, AsmFault::NotYet),
-            Ok(_) => return Err(Fail::from("a text was understood")),
-        }
+        refused(rt.alloc(), text)?;
     }
     Ok(())
 }

@@ -84,6 +84,6 @@ impl Status {
 pub struct Outcome {
     /// How the call ended.
     pub status: Status,
-    /// What came of the run: given where the text was run and its report was written or begun to be written.
+    /// What came of the run: given where the text was run to its end, also where its report could not be written.
     pub report: Option<Report>,
 }

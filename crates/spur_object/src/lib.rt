@@ -1,6 +1,6 @@
 //! A program as one unit: the code of each board, the declared pages and the words that they hold at first.
 //!
-//! A unit is what an assembly text says, and what object bytes encode. Its form is this project's own, and no
+//! A unit is what an assembly text says. Its form is this project's own, and no
 //! statement about SPUR.
 #![tactic(auto)]
 
