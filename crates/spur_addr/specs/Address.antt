@@ -9,6 +9,10 @@ page_of g = g / 2 ^ 12
 abbrev pub block_of : ℕ → ℕ
 block_of g = g / 2 ^ 5
 
+-- the first byte of the block
+abbrev pub block_start_of : ℕ → ℕ
+block_start_of g = g / 2 ^ 5 * 2 ^ 5
+
 -- the place of the word in its block
 abbrev pub word_in_block_of : ℕ → ℕ
 word_in_block_of g = g / 2 ^ 2 % 8

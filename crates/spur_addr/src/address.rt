@@ -1,7 +1,7 @@
 //! Global virtual addresses, and where the page-table entry of an address stands.
 
 ghost use Rattle.std.specs.Prelude.{◌≡◌, ◌+◌, ◌<◌, ◌^◌, ◌↔◌, IfSome, IsSome};
-ghost use Rattle.spur_addr.specs.Address.{block_of, entry_address_of, global_of, page_of, root_place_of, root_start, word_in_block_of};
+ghost use Rattle.spur_addr.specs.Address.{block_of, block_start_of, entry_address_of, global_of, page_of, root_place_of, root_start, word_in_block_of};
 
 use std::marker::Model;
 
@@ -72,6 +72,16 @@ impl GlobalAddr {
         self.number >> 5
     }
 
+    /// The address of the first byte of the block that the byte is in.
+    pub fn block_start(self) -> GlobalAddr
+        ensures value { result ≡ block_start_of self }
+        ensures small { block_start_of self < 2 ^ 38 }
+    {
+        GlobalAddr {
+            number: self.block() << 5,
+        }
+    }
+
     /// Which of its block's eight words the byte is in, from 0 to 7.
     pub fn word_in_block(self) -> u32
         ensures value { result ≡ word_in_block_of self }
@@ -130,11 +140,12 @@ mod tests {
     #[test]
     fn an_address_has_a_page_a_block_a_word_and_its_entries(rt: HostRuntime) -> Result<(), Fail> {
         let rows = [
-            (0x40, 0, 2, 0, 0x3f_c000_0000, 0x3f_cff0_0000, 0),
+            (0x40, 0, 2, 0x40, 0, 0x3f_c000_0000, 0x3f_cff0_0000, 0),
             (
                 0x1234_5678,
                 0x1_2345,
                 0x91_a2b3,
+                0x1234_5660,
                 6,
                 0x3f_c004_8d14,
                 0x3f_cff0_0120,
@@ -144,17 +155,19 @@ mod tests {
                 0x3f_ffff_ffff,
                 0x3ff_ffff,
                 0x1_ffff_ffff,
+                0x3f_ffff_ffe0,
                 7,
                 0x3f_cfff_fffc,
                 0x3f_cff3_fffc,
                 0x3_fffc,
             ),
         ];
-        for (number, page, block, word, entry, root_entry, place) in rows {
+        for (number, page, block, start, word, entry, root_entry, place) in rows {
             let at = GlobalAddr::of(number).ok_or("no address")?;
             assert_eq!(rt; at.number(), number);
             assert_eq!(rt; at.page(), page);
             assert_eq!(rt; at.block(), block);
+            assert_eq!(rt; at.block_start().number(), start);
             assert_eq!(rt; at.word_in_block(), word);
             assert_eq!(rt; pte_of(at).number(), entry);
             assert_eq!(rt; pte_of(pte_of(at)).number(), root_entry);

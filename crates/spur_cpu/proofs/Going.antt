@@ -108,7 +108,7 @@ module _ {S : Type 0} (m : Meaning S) (segs : List ℕ) (budget : ℕ) where
     done_on c d (Access kind va value) None (Load board at v) k is step q h = subst (λ (x : Course S). IsOnItsWay m budget x (k + 1)) (passed _ _ d step) (retired_on c _ k is h)
     done_on c d (Access kind va value) None (Store board at v) k is step q h = subst (λ (x : Course S). IsOnItsWay m budget x (k + 1)) (passed _ _ d step) (retired_on c _ k is h)
     done_on c d (Access kind va value) None (Tas board at v) k is step q h = subst (λ (x : Course S). IsOnItsWay m budget x (k + 1)) (passed _ _ d step) (retired_on c _ k is h)
-    done_on c d (Access kind va value) None (Fault board fault access at) k is step q h = absurd cc
+    done_on c d (Access kind va value) None e k is step q h = absurd cc
 
     fault_on : (c d : Course S) (w : Want) (s : Option Stop) (e : Entry) (k : ℕ) → carry_want m segs budget c w s e ≡ Some d → is_done e ≡ false → IsOnItsWay m budget c k → IsOnItsWay m budget d k
     fault_on c d Local s e k step q h = absurd cc
@@ -121,6 +121,7 @@ module _ {S : Type 0} (m : Meaning S) (segs : List ℕ) (budget : ℕ) where
       | inl e ↦ subst (λ (x : Course S). IsOnItsWay m budget x k) e (stopped_on c fault at k h)
       | inr e ↦ subst (λ (x : Course S). IsOnItsWay m budget x k) e h
     ]
+    fault_on c d (Access kind va value) None e k step q h = absurd cc
 
     on_its_way : (s : S) (d : Course S) (es : List Entry) (n : ℕ) → 0 < budget → m.wants s ≢ Ended → after m segs budget (begun s) es n ≡ Some d → IsOnItsWay m budget d n
     on_its_way s d es n some wants h = let count : 0 + n ≡ n = omega arith in subst (IsOnItsWay m budget d) count (after_keeps m segs budget (IsOnItsWay m budget) record {

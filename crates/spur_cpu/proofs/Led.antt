@@ -5,6 +5,7 @@ use Rattle.spur_cpu.specs.declared.cpu.Want.{Want}
 use Rattle.spur_cpu.specs.declared.cpu.Want.TheVariants.{Local, Access, Ended}
 use Rattle.spur_cpu.specs.After.{Stop, Course, is_done, wants_local, carry_local, carry_want, carry_entry, after, retire, IsLed}
 use Rattle.spur_cpu.proofs.Afters.{one_local, one_done, one_fault}
+use Rattle.spur_flat.specs.StateLaws.{IsAccess}
 use Rattle.spur_flat.specs.declared.entry.Entry.{Entry}
 use Rattle.spur_flat.specs.declared.entry.Entry.TheVariants.{Load, Store, Tas, Fault}
 
@@ -30,7 +31,7 @@ module _ {S : Type 0} (m : Meaning S) (segs : List ℕ) (budget : ℕ) where
   want_done c d (Access kind va value) None (Load board at v) h q = ap (λ (x : Course S). x.retired) (sym (passed _ _ d h))
   want_done c d (Access kind va value) None (Store board at v) h q = ap (λ (x : Course S). x.retired) (sym (passed _ _ d h))
   want_done c d (Access kind va value) None (Tas board at v) h q = ap (λ (x : Course S). x.retired) (sym (passed _ _ d h))
-  want_done c d (Access kind va value) None (Fault board k w at) h q = absurd cc
+  want_done c d (Access kind va value) None e h q = absurd cc
 
   want_fault : (c d : Course S) (w : Want) (s : Option Stop) (e : Entry) → carry_want m segs budget c w s e ≡ Some d → is_done e ≡ false → d.retired ≡ c.retired
   want_fault c d Local None e h q = absurd cc
@@ -42,6 +43,23 @@ module _ {S : Type 0} (m : Meaning S) (segs : List ℕ) (budget : ℕ) where
   want_fault c d (Access kind va value) None (Store board at v) h q = absurd cc
   want_fault c d (Access kind va value) None (Tas board at v) h q = absurd cc
   want_fault c d (Access kind va value) None (Fault board k w at) h q = elim (faulted _ _ _ _ d h) [ inl e ↦ ap (λ (x : Course S). x.retired) (sym e) | inr e ↦ ap (λ (x : Course S). x.retired) (sym e) ]
+  want_fault c d (Access kind va value) None e h q = absurd cc
+
+  -- only an access, or a fault of one, carries a course on
+  want_access : (c d : Course S) (w : Want) (s : Option Stop) (e : Entry) → carry_want m segs budget c w s e ≡ Some d → IsAccess e
+  want_access c d Local None e h = absurd cc
+  want_access c d Local (Some s) e h = absurd cc
+  want_access c d Ended None e h = absurd cc
+  want_access c d Ended (Some s) e h = absurd cc
+  want_access c d (Access kind va value) (Some s) e h = absurd cc
+  want_access c d (Access kind va value) None (Load board at v) h = tt
+  want_access c d (Access kind va value) None (Store board at v) h = tt
+  want_access c d (Access kind va value) None (Tas board at v) h = tt
+  want_access c d (Access kind va value) None (Fault board k w at) h = tt
+  want_access c d (Access kind va value) None e h = absurd cc
+
+  pub carries_access : (c d : Course S) (e : Entry) → carry_entry m segs budget c e ≡ Some d → IsAccess e
+  carries_access c d e h = want_access c d (m.wants c.cpu) c.ending e h
 
   -- a local instruction leads on
   pub led_local : (c d f : Course S) (es : List Entry) → IsLed m segs budget c es d → carry_local m segs budget d ≡ Some f → IsLed m segs budget c es f

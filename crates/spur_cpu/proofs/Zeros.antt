@@ -57,6 +57,7 @@ zero_want segs budget c d (Access kind va value) None (Load board at v) h f = su
 zero_want segs budget c d (Access kind va value) None (Store board at v) h f = subst Fine (passed _ _ d h) (zero_answered c.cpu (Done v) f)
 zero_want segs budget c d (Access kind va value) None (TasEntry board at v) h f = subst Fine (passed _ _ d h) (zero_answered c.cpu (Done v) f)
 zero_want segs budget c d (Access kind va value) None (Fault board k w at) h f = elim (faulted _ _ _ _ d h) [ inl e ↦ subst Fine e (zero_answered c.cpu (Faulted k) f) | inr e ↦ subst Fine e f ]
+zero_want segs budget c d (Access kind va value) None e h f = absurd cc
 
 pub zero-stays : ZeroStays
 zero-stays code segs budget es n d h = after_keeps plain segs budget (λ c k. Fine c) record {

@@ -34,12 +34,12 @@ same_access access.Store access.Store = true
 same_access access.Tas access.Tas = true
 same_access a b = false
 
--- an entry of an access that is done completes its instruction
+-- an entry of an access that is done completes its instruction, and no other entry does
 abbrev pub is_done : Entry → Bool
 is_done (Load board at value) = true
 is_done (Store board at value) = true
 is_done (Tas board at old) = true
-is_done (Fault board kind access at) = false
+is_done _ = false
 
 -- the ending of a board that has completed an instruction: a processor that wants nothing more has halted; else the
 -- instruction that meets the budget spends it
@@ -68,7 +68,7 @@ module _ {S : Type 0} (m : Meaning S) (segs : List ℕ) (budget : ℕ) where
   carry_local c = if wants_local c then Some (retire c (m.local c.cpu)) else None
 
   -- the entry of an access: it has the access's kind, its global address and, for a store, its value; a fault that
-  -- does not end the board leaves the instruction standing
+  -- does not end the board leaves the instruction standing. The entries of the bus and of the pager answer no access
   abbrev pub carry_access : Course S → AccessKind → ℕ → ℕ → Entry → Option (Course S)
   carry_access c kind at value (Load board a v) =
       if same_access kind access.Load && a == at then Some (retire c (m.answer c.cpu (Done v))) else None
@@ -78,6 +78,7 @@ module _ {S : Type 0} (m : Meaning S) (segs : List ℕ) (budget : ℕ) where
       if same_access kind access.Tas && a == at then Some (retire c (m.answer c.cpu (Done v))) else None
   carry_access c kind at value (Fault board k w a) =
       if same_access kind w && a == at then (if is_ending k then Some (stop c k a) else Some c) else None
+  carry_access c kind at value _ = None
 
   abbrev pub carry_want : Course S → Want → Option Stop → Entry → Option (Course S)
   carry_want c (Access kind va value) None e = carry_access c kind (global_of segs va) value e

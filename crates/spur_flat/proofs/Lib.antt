@@ -1,4 +1,16 @@
+pub mod EachFacts
+pub mod TagFacts
 pub mod AccessFacts
 pub mod WalkFacts
+pub mod TableFacts
+pub mod PagerFacts
 pub mod HistoryFacts
+pub mod PieceFacts
+pub mod StateFacts
+pub mod QuietFacts
+pub mod WorkedFacts
+pub mod LikeFacts
+pub mod UntoldFacts
 pub mod OnePage
+pub mod TwoPages
+pub mod SwappedPages

@@ -1,11 +1,11 @@
--- Laws that tie refusals to the table of allowed answers, and histories to their pieces.
+-- Laws that tie refusals to the table of allowed answers and to the pager's conditions, and histories to their pieces.
 use Rattle.std.specs.Prelude.{Option, All, ◌||◌, not, false, ℕ, ◌≡◌, ◌↔◌, ◌<◌, ◌^◌, ◌++◌, true, List, None, Some}
 use Rattle.spur_flat.specs.declared.flat.Flat.{Flat}
 use Rattle.spur_flat.specs.declared.access.AccessKind.{AccessKind}
 use Rattle.spur_flat.specs.declared.access.AccessKind.TheVariants as access
 use Rattle.spur_flat.specs.declared.access.FaultKind.{FaultKind}
 use Rattle.spur_flat.specs.declared.entry.Entry.{Entry}
-use Rattle.spur_flat.specs.declared.entry.Entry.TheVariants.{Load, Store, Tas, Fault}
+use Rattle.spur_flat.specs.declared.entry.Entry.TheVariants.{Load, Store, Tas, Fault, Fill, Claim, WriteBack, Refresh, BlockFlush, Leave, PageOut, PageIn, SetRef, SetDirty, ClearRef}
 use Rattle.spur_addr.specs.Address.{is_aligned, page_of}
 use Rattle.spur_addr.specs.PageEntry.{is_valid, is_referenced, is_dirty, is_leaving}
 use Rattle.spur_flat.specs.Access.{allows, is_write, may, miss_of}
@@ -18,7 +18,7 @@ use Rattle.spur_flat.specs.History.{on, flat_after, IsAllowed, IsLegal, own_entr
 abbrev pub WalkFindsEntry : Type 0
 WalkFindsEntry = (F : Flat) (g : ℕ) → walk_of F g ≡ entry_at F.words (page_of g)
 
--- an entry is refused exactly where it is not allowed
+-- each of the fifteen entries is refused exactly where it is not allowed; those of the bus are always allowed here
 abbrev pub RefusedUnlessAllowed : Type 0
 RefusedUnlessAllowed = (F : Flat) (entry : Entry) → (refusal_of F entry ≡ None) ↔ IsAllowed F entry
 
@@ -61,8 +61,19 @@ address_of (Load board at value) = at
 address_of (Store board at value) = at
 address_of (Tas board at old) = at
 address_of (Fault board kind access at) = at
+address_of (Fill board layer need at) = at
+address_of (Claim board at) = at
+address_of (WriteBack board at) = at
+address_of (Refresh board at) = at
+address_of (BlockFlush board holder at) = at
+address_of (Leave board at) = at
+address_of (PageOut board at) = at
+address_of (PageIn board at frame) = at
+address_of (SetRef board at) = at
+address_of (SetDirty board at) = at
+address_of (ClearRef board at) = at
 
--- an allowed entry keeps a flat state valid
+-- an allowed entry, an access or the pager's or any other, keeps a flat state valid
 abbrev pub StaysValid : Type 0
 StaysValid = (F : Flat) (entry : Entry) → IsValidFlat F → address_of entry < 2 ^ 38 → IsAllowed F entry → IsValidFlat (on F entry)
 

@@ -1,6 +1,17 @@
 pub mod Access
 pub mod Table
 pub mod Validity
+pub mod Refused
+pub mod Pager
 pub mod Refusal
 pub mod History
 pub mod Laws
+pub mod Blocks
+pub mod TagLines
+pub mod TagRules
+pub mod Needed
+pub mod State
+pub mod Untold
+pub mod UntoldLaws
+pub mod StateLaws
+pub mod Worked

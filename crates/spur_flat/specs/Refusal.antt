@@ -1,17 +1,18 @@
 -- Why an entry is refused in a flat state, with the two numbers that differ.
-use Rattle.std.specs.Prelude.{ℕ, ◌==◌, if◌then◌else◌, Option, Some, None, Result, Ok, Err}
+use Rattle.std.specs.Prelude.{ℕ, ◌==◌, if◌then◌else◌, Option, Some, None}
 use Rattle.spur_flat.specs.declared.flat.Flat.{Flat}
 use Rattle.spur_flat.specs.declared.access.AccessKind.{AccessKind}
 use Rattle.spur_flat.specs.declared.access.AccessKind.TheVariants as access
 use Rattle.spur_flat.specs.declared.access.FaultKind.{FaultKind}
 use Rattle.spur_flat.specs.declared.access.FaultKind.TheVariants.{Align, Unmapped, Missing, Leaving, Protection, Reference, Dirty}
 use Rattle.spur_flat.specs.declared.entry.Entry.{Entry}
-use Rattle.spur_flat.specs.declared.entry.Entry.TheVariants.{Load, Store, Tas, Fault}
-use Rattle.spur_flat.specs.declared.illegal.Clause.{Clause}
+use Rattle.spur_flat.specs.declared.entry.Entry.TheVariants.{Load, Store, Tas, Fault, Fill, Claim, WriteBack, Refresh, BlockFlush, Leave, PageOut, PageIn, SetRef, SetDirty, ClearRef}
 use Rattle.spur_flat.specs.declared.illegal.Clause.TheVariants as clause
 use Rattle.spur_flat.specs.declared.illegal.Illegal.{Illegal}
+use Rattle.spur_flat.specs.Refused.{refused, or_else, unless}
 use Rattle.spur_flat.specs.Access.{may, miss_of, bar_of}
 use Rattle.spur_flat.specs.Table.{walk_of, data_word}
+use Rattle.spur_flat.specs.Pager.{paged, may_leave, may_go_out, may_come_in, may_set_referenced, may_set_dirty, may_clear_referenced, is_free_frame}
 
 -- the numbers of the answers: 0 is done
 abbrev pub fault_number : FaultKind → ℕ
@@ -26,15 +27,6 @@ fault_number Dirty = 7
 abbrev pub answer_number : Option FaultKind → ℕ
 answer_number None = 0
 answer_number (Some fault) = fault_number fault
-
--- a refusal by a rule, with WANTED and FOUND
-abbrev pub refused : Clause → ℕ → ℕ → Option Illegal
-refused rule wanted found = Some record { clause = rule; wanted = wanted; found = found }
-
--- the first of two refusals
-abbrev pub or_else : Option Illegal → Option Illegal → Option Illegal
-or_else None second = second
-or_else (Some first) second = Some first
 
 -- an access that is done is refused where a fault bars it: WANTED is that fault, FOUND is 0
 abbrev pub barred : Option FaultKind → Option Illegal
@@ -58,19 +50,25 @@ fault_refusal entry access g fault =
     if may entry access g (Some fault) then None
     else refused clause.Fault (answer_number (miss_of entry access g)) (fault_number fault)
 
--- why an entry is refused in a flat state, by the first rule that it breaks; none where it is allowed
+-- a page comes in where its entry lets it, and then where the frame is free: FOUND is the frame
+abbrev pub in_refusal : Flat → ℕ → ℕ → Option Illegal
+in_refusal F at frame = paged F at may_come_in 4 (unless clause.Pager (is_free_frame F frame) 5 frame None)
+
+-- why an entry is refused in a flat state, by the first rule that it breaks; none where it is allowed. The entries of
+-- the bus are never refused by it.
 abbrev pub refusal_of : Flat → Entry → Option Illegal
 refusal_of F (Load board at value) = read_refusal F access.Load at value
 refusal_of F (Store board at value) = done_refusal F access.Store at
 refusal_of F (Tas board at old) = read_refusal F access.Tas at old
 refusal_of F (Fault board kind access at) = fault_refusal (walk_of F at) access at kind
-
--- the answer of a call that takes an entry, or refuses it
-abbrev pub result_of : Option Illegal → Result (Unit {0}) Illegal
-result_of None = Ok tt
-result_of (Some why) = Err why
-
--- the place of an access's word, or why the access may not be done
-abbrev pub place_or : Option Illegal → ℕ → Result ℕ Illegal
-place_or None place = Ok place
-place_or (Some why) place = Err why
+refusal_of F (Fill board layer need at) = None
+refusal_of F (Claim board at) = None
+refusal_of F (WriteBack board at) = None
+refusal_of F (Refresh board at) = None
+refusal_of F (BlockFlush board holder at) = None
+refusal_of F (Leave board at) = paged F at may_leave 2 None
+refusal_of F (PageOut board at) = paged F at may_go_out 3 None
+refusal_of F (PageIn board at frame) = in_refusal F at frame
+refusal_of F (SetRef board at) = paged F at may_set_referenced 6 None
+refusal_of F (SetDirty board at) = paged F at may_set_dirty 7 None
+refusal_of F (ClearRef board at) = paged F at may_clear_referenced 8 None

@@ -65,7 +65,7 @@ impl FaultKind {
 }
 
 /// Whether the protection of a page's entry allows an access.
-fn allowed(entry: Pte, access: AccessKind) -> bool
+pub(crate) fn allowed(entry: Pte, access: AccessKind) -> bool
     ensures { result ≡ allows entry access }
 {
     match entry.protection() {

@@ -4,7 +4,8 @@ ghost use Rattle.std.specs.Prelude.{◌≡◌, ◌^◌, ◌<◌, ◌≤◌, true
 ghost use Rattle.spur_flat.specs.Access.{may, miss_of};
 ghost use Rattle.spur_flat.specs.Table.{data_word, place_in, place_of, table_words, walk_of};
 ghost use Rattle.spur_flat.specs.Validity.{IsValidFlat};
-ghost use Rattle.spur_flat.specs.Refusal.{done_refusal, fault_refusal, read_refusal, place_or, refusal_of, result_of};
+ghost use Rattle.spur_flat.specs.Refusal.{done_refusal, fault_refusal, read_refusal, refusal_of};
+ghost use Rattle.spur_flat.specs.Refused.{place_or, result_of};
 ghost use Rattle.spur_flat.specs.History.{on, with_word};
 
 use crate::access::{AccessKind, FaultKind, admit, may_fault, miss};
@@ -14,7 +15,7 @@ use spur_addr::{GlobalAddr, Pte};
 use spur_list::Items;
 
 /// The words of a page, and so of a frame, of a swap slot, and the entries of a page of the table.
-const PAGE_WORDS: usize = 1024;
+pub(crate) const PAGE_WORDS: usize = 1024;
 
 /// The plain machine's state: memory, swap, and which pages are declared.
 ///
@@ -56,7 +57,7 @@ impl Flat {
     }
 
     /// The entry that a word of the root or of the page table is: each of them is readable.
-    fn entry(&self, place: usize) -> Pte
+    pub(crate) fn entry(&self, place: usize) -> Pte
         requires valid { IsValidFlat self.now }
         requires in_tables { place < table_words self.now.tables }
         ensures { result ≡ slice_index self.now.words place }
@@ -99,9 +100,31 @@ impl Flat {
     /// 0. A load or a test-and-set is then refused by the rule `Answer` where it read another word
     /// than the one that stands in memory: WANTED is that word, FOUND the entry's. A fault is refused
     /// by the rule `Fault` where the access may not have it: WANTED is the miss answer (0 where there
-    /// is none), FOUND the entry's fault.
+    /// is none), FOUND the entry's fault. A store makes the word its value, and a test-and-set makes
+    /// it 1; a load and a fault change nothing.
     ///
-    /// A store makes the word its value, a test-and-set makes it 1, and other entries change nothing.
+    /// The entries of the bus, from `Fill` to `BlockFlush`, are never refused here and change nothing:
+    /// what they ask of the boards' lines is not a matter of the plain machine.
+    ///
+    /// An entry of the pager is refused by the rule `Pager` where one of its conditions fails: WANTED
+    /// is the number of the first that does.
+    ///
+    /// | no. | entry | condition | FOUND |
+    /// |---|---|---|---|
+    /// | 1 | all six | the page is declared | 0 |
+    /// | 2 | `Leave` | the page's entry is valid, and not leaving | the entry's word |
+    /// | 3 | `PageOut` | it is valid and leaving | the entry's word |
+    /// | 4 | `PageIn` | it is on swap, and not valid | the entry's word |
+    /// | 5 | `PageIn` | the frame is one of the data, and no declared page is in it | the frame |
+    /// | 6 | `SetRef` | it is valid, and not referenced | the entry's word |
+    /// | 7 | `SetDirty` | it is valid and not dirty, and the page may be written | the entry's word |
+    /// | 8 | `ClearRef` | it is valid and referenced, and not leaving | the entry's word |
+    ///
+    /// Four of them set or clear one bit of the page's entry: `Leave` sets leaving, `SetRef` and
+    /// `ClearRef` set and clear referenced, and `SetDirty` sets dirty. A `PageOut` puts the words of the
+    /// page's frame into its swap slot where the page is dirty, and makes the entry that of a page on
+    /// swap. A `PageIn` puts the words of the slot into the frame, and makes the entry valid and
+    /// referenced, with no other bit. Both keep the protection.
     pub fn apply(&mut self, entry: &Entry) -> Result<(), Illegal>
         requires { IsValidFlat self.old }
         ensures exact { result ≡ result_of (refusal_of self.old entry.now) }
@@ -119,6 +142,17 @@ impl Flat {
                 at,
                 ..
             } => self.fault(*kind, *access, *at),
+            Entry::Fill { .. }
+            | Entry::Claim { .. }
+            | Entry::WriteBack { .. }
+            | Entry::Refresh { .. }
+            | Entry::BlockFlush { .. } => Ok(()),
+            Entry::Leave { at, .. } => self.leave(*at),
+            Entry::PageOut { at, .. } => self.page_out(*at),
+            Entry::PageIn { at, frame, .. } => self.page_in(*at, *frame),
+            Entry::SetRef { at, .. } => self.set_referenced(*at),
+            Entry::SetDirty { at, .. } => self.set_dirty(*at),
+            Entry::ClearRef { at, .. } => self.clear_referenced(*at),
         }
     }
 

@@ -7,7 +7,8 @@ pub fn walk_finds_entry()
     ensures { WalkFindsEntry }
 {}
 
-/// An entry is refused exactly where the table of allowed answers does not allow it.
+/// An entry is refused exactly where it is not allowed: an access or a fault by the table of allowed answers and
+/// the word in memory, an entry of the pager by its conditions. Those of the bus are always allowed here.
 pub fn refused_unless_allowed()
     ensures { RefusedUnlessAllowed }
 {}
@@ -30,7 +31,7 @@ pub fn ready_is_done()
     ensures { ReadyIsDone }
 {}
 
-/// An allowed entry keeps a flat state valid, and so does a legal history.
+/// An allowed entry, each of the fifteen, keeps a flat state valid, and so does a legal history.
 pub fn stays_valid()
     ensures entry { StaysValid }
     ensures history { LegalStaysValid }

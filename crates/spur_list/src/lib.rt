@@ -4,7 +4,8 @@
 //! be equal. A struct with public fields holds an `Items` instead, and a clause compares it with a definition's value.
 #![tactic(auto)]
 
-ghost use Rattle.std.specs.Prelude.{◌≡◌, ◌==◌, ◌<◌, ◌++◌, ◌∷◌, [], length, slice_set, OnOk, OnErr};
+ghost use Rattle.std.specs.Prelude.{◌≡◌, ◌==◌, ◌+◌, ◌<◌, ◌≤◌, ◌++◌, ◌∷◌, [], length, slice_set, OnOk, OnErr};
+ghost use Rattle.spur_list.specs.Parts.{part_at, with_part};
 
 use std::alloc::{AllocError, Global};
 use std::marker::Model;
@@ -88,6 +89,29 @@ impl<T> Items<T> {
     {
         self.items[position] = item;
     }
+
+    /// Puts `count` members of another list, from its position `at` on, in the place of as many from position `to` on.
+    /// Both lists have so many members there.
+    pub fn copy_part(&mut self, to: usize, other: &Items<T>, at: usize, count: usize)
+    where
+        T: Copy,
+        requires there { to + count ≤ length self.old }
+        requires here { at + count ≤ length other.now }
+        ensures { self.new ≡ with_part self.old to (part_at other.now at count) count }
+    {
+        copy_members(&mut self.items, to, &other.items, at, count);
+    }
+}
+
+/// Puts `count` members of `from`, from position `at` on, in the place of as many of `members` from position `to` on.
+fn copy_members<T>(members: &mut [T], to: usize, from: &[T], at: usize, count: usize)
+where
+    T: Copy,
+    requires there { to + count ≤ length members.old }
+    requires here { at + count ≤ length from.now }
+    ensures { members.new ≡ with_part members.old to (part_at from.now at count) count }
+{
+    members[to..to + count].copy_from_slice(&from[at..at + count]);
 }
 
 #[cfg(test)]
@@ -106,6 +130,25 @@ mod tests {
         list.set(1, 7);
         assert_eq!(rt; list.as_slice(), [3u32, 7, 8].as_slice());
         assert_eq!(rt; list.into_vec().as_slice(), [3u32, 7, 8].as_slice());
+        Ok(())
+    }
+
+    #[test]
+    fn copies_a_part(rt: HostRuntime) -> Result<(), Fail> {
+        let mut list = Items::new(rt.alloc());
+        let mut other = Items::new(rt.alloc());
+        for member in [1u32, 2, 3, 4, 5] {
+            list.push(member)?;
+            other.push(member * 10)?;
+        }
+        if other.len() != 5 || list.len() != 5 {
+            return Err(Fail::from("five members were pushed"));
+        }
+        list.copy_part(1, &other, 2, 3);
+        assert_eq!(rt; list.as_slice(), [1u32, 30, 40, 50, 5].as_slice());
+        assert_eq!(rt; other.as_slice(), [10u32, 20, 30, 40, 50].as_slice());
+        list.copy_part(5, &other, 0, 0);
+        assert_eq!(rt; list.as_slice(), [1u32, 30, 40, 50, 5].as_slice());
         Ok(())
     }
 }

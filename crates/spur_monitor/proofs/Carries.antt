@@ -12,6 +12,8 @@ use Rattle.spur_flat.specs.Table.{data_word, walk_of}
 use Rattle.spur_flat.specs.Validity.{IsValidFlat}
 use Rattle.spur_flat.specs.History.{IsAllowed, on}
 use Rattle.spur_flat.specs.Laws.{address_of}
+use Rattle.spur_flat.specs.Blocks.{board_of}
+use Rattle.spur_flat.specs.StateLaws.{IsAccess}
 use Rattle.spur_cpu.specs.declared.cpu.Want.{Want}
 use Rattle.spur_cpu.specs.declared.cpu.Want.TheVariants.{Local, Access, Ended}
 use Rattle.spur_cpu.specs.declared.cpu.Answer.TheVariants.{Done}
@@ -21,11 +23,18 @@ use Rattle.spur_monitor.specs.declared.board.Board.{Board}
 use Rattle.spur_monitor.specs.declared.report.Ending.{Ending}
 use Rattle.spur_monitor.specs.declared.report.Ending.TheVariants as ending
 use Rattle.spur_monitor.specs.Headline.{stop_of}
-use Rattle.spur_monitor.specs.Boards.{HasDone, HasFaulted, IsLast, LedByEntry, TakenBy, board_of, course_now, ended_at, entry_by, entry_of}
+use Rattle.spur_monitor.specs.Boards.{HasDone, HasFaulted, IsLast, LedByEntry, TakenBy, course_now, ended_at, entry_by, entry_of}
 use Rattle.spur_monitor.specs.Resident.{IsAllResident}
 use Rattle.spur_monitor.proofs.Residents.{miss-is_ending, resident-on}
 
--- what an entry of a board's access says of its board, its address, and its answer
+-- the entry of a board's access is one of an access or of a fault of one
+entry_by-access : (F : Flat) (board : ℕ) (kind : AccessKind) (at value : ℕ) (miss : Option FaultKind) → IsAccess (entry_by F board kind at value miss)
+entry_by-access F board access.Load at value None = tt
+entry_by-access F board access.Store at value None = tt
+entry_by-access F board access.Tas at value None = tt
+entry_by-access F board kind at value (Some fault) = tt
+
+-- what it says of its board, its address, and its answer
 board_of-entry_by : (F : Flat) (board : ℕ) (kind : AccessKind) (at value : ℕ) (miss : Option FaultKind) → board_of (entry_by F board kind at value miss) ≡ board
 board_of-entry_by F board access.Load at value None = refl
 board_of-entry_by F board access.Store at value None = refl
@@ -73,8 +82,9 @@ entry_of-last F board kind at value e ok all small is =
 pub entry_of-resident : (F G : Flat) (board : ℕ) (kind : AccessKind) (at value : ℕ) (e : Entry) → IsValidFlat F → IsAllResident F → at < 2 ^ 38 → e ≡ entry_of F board kind at value
     → IsAllowed F e → G ≡ on F e → IsAllResident G
 entry_of-resident F G board kind at value e ok all small is allowed flat =
+    let is-access : IsAccess e = subst IsAccess (sym is) (entry_by-access F board kind at value (miss_of (walk_of F at) kind at)) in
     let address : address_of e ≡ at = ap address_of is ∙ address_of-entry_by F board kind at value (miss_of (walk_of F at) kind at) in
-    subst IsAllResident (sym flat) (resident-on F e ok all (subst (λ (g : ℕ). g < 2 ^ 38) (sym address) small) allowed)
+    subst IsAllResident (sym flat) (resident-on F e is-access ok all (subst (λ (g : ℕ). g < 2 ^ 38) (sym address) small) allowed)
 
 module _ {C S : Type 0} (m : Meaning S) (state : C → S) where
   -- a board that has completed the instruction of an access

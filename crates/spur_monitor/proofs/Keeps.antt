@@ -3,20 +3,23 @@ use Rattle.std.proofs.Common.{◌≡◌, ℕ, ◌<◌, Option, List, [], ◌∷�
 use Rattle.std.specs.Prelude.{option_map, slice_get}
 use Rattle.std.specs.declared.vec.Vec.{Vec}
 use Rattle.std.specs.declared.alloc.Global.{Global}
+use Rattle.std.proofs.lemmas.List.Elements.{All-append, All-cons, All-nil}
 use Rattle.std.proofs.lemmas.Option.{slice_get_within}
 use Rattle.spur_flat.specs.declared.entry.Entry.{Entry}
 use Rattle.spur_flat.specs.declared.flat.Flat.{Flat}
 use Rattle.spur_flat.specs.History.{IsAllowed, IsLegal, flat_after, on, own_entries}
+use Rattle.spur_flat.specs.Blocks.{board_of}
+use Rattle.spur_flat.specs.StateLaws.{IsAccess}
 use Rattle.spur_flat.proofs.HistoryFacts.{flat_after-snoc, legal-snoc}
 use Rattle.spur_cpu.specs.Meaning.{Meaning}
 use Rattle.spur_cpu.specs.After.{Course, IsLed, after, begun, carry_entry, carry_local}
-use Rattle.spur_cpu.proofs.Led.{led_entry, led_local}
+use Rattle.spur_cpu.proofs.Led.{carries_access, led_entry, led_local}
 use Rattle.spur_monitor.specs.declared.board.Board.{Board}
 use Rattle.spur_monitor.specs.declared.machine.Beginning.{Beginning}
 use Rattle.spur_monitor.specs.declared.machine.Machine.{Machine}
 use Rattle.spur_monitor.specs.declared.report.Ending.{Ending}
 use Rattle.spur_monitor.specs.Headline.{stop_of}
-use Rattle.spur_monitor.specs.Boards.{Leads, LedByEntry, LedLocally, Stays, board_of, course_now}
+use Rattle.spur_monitor.specs.Boards.{Leads, LedByEntry, LedLocally, Stays, course_now}
 use Rattle.spur_monitor.specs.Machines.{AllFollow, AllFresh, AllSound, Follows, HasNoOthers, IsGood, IsReady}
 use Rattle.spur_monitor.proofs.Turns.{follow-set, own_entries-mine, own_entries-other, sound-set}
 
@@ -38,13 +41,13 @@ module _ {C S : Type 0} (m : Meaning S) (state : C → S) (spare : C → ℕ) wh
       (λ j n. refl)
 
   follow_entry : (limit : ℕ) (starts : List (Board C)) (history : List Entry) (boards : List (Board C)) (i : ℕ) (old new : Board C) (F G : Flat) (e : Entry)
-      → AllFollow m state spare limit starts history boards → slice_get boards i ≡ Some old → board_of e ≡ i → LedByEntry m state F old e G new → Stays m state spare old new
+      → AllFollow m state spare limit starts history boards → slice_get boards i ≡ Some old → IsAccess e → board_of e ≡ i → LedByEntry m state F old e G new → Stays m state spare old new
       → AllFollow m state spare limit starts (history ++ e ∷ []) (set boards i new)
-  follow_entry limit starts history boards i old new F G e all at mine led stays = follow-set m state spare limit starts history (history ++ e ∷ []) boards i new all
+  follow_entry limit starts history boards i old new F G e all at access mine led stays = follow-set m state spare limit starts history (history ++ e ∷ []) boards i new all
       (λ start is. let was = all.each i start old is at in record {
         segs = stays.segs ∙ was.segs;
         budget = stays.budget ∙ was.budget;
-        led = subst (λ (es : List Entry). IsLed m start.segs limit (begun (state start.cpu)) es (course_now m state new)) (sym (own_entries-mine history e i mine))
+        led = subst (λ (es : List Entry). IsLed m start.segs limit (begun (state start.cpu)) es (course_now m state new)) (sym (own_entries-mine history e i access mine))
             (led_entry m start.segs limit (begun (state start.cpu)) (course_now m state old) (course_now m state new) (own_entries history i) e was.led
             (subst (λ (z : List ℕ × ℕ). carry_entry m z.0 z.1 (course_now m state old) e ≡ Some (course_now m state new)) (λ k. (was.segs k, was.budget k)) led.carried));
       })
@@ -70,9 +73,10 @@ module _ {C S : Type 0} (m : Meaning S) (state : C → S) (spare : C → ℕ) wh
   none_of : (boards : List (Board C)) (i : ℕ) (new : Board C) (history : List Entry) → HasNoOthers (length boards) history → HasNoOthers (length (set boards i new)) history
   none_of boards i new history none = subst (λ (n : ℕ). HasNoOthers n history) (sym (length-set boards i new)) none
 
-  -- an entry of a board that is there is of no other
-  none_more : (count : ℕ) (history : List Entry) (e : Entry) (i : ℕ) → board_of e ≡ i → i < count → HasNoOthers count history → HasNoOthers count (history ++ e ∷ [])
-  none_more count history e i mine within none = record {
+  -- an access of a board that is there is of no other
+  none_more : (count : ℕ) (history : List Entry) (e : Entry) (i : ℕ) → IsAccess e → board_of e ≡ i → i < count → HasNoOthers count history → HasNoOthers count (history ++ e ∷ [])
+  none_more count history e i access mine within none = record {
+    accesses = All-append IsAccess history (e ∷ []) none.accesses (All-cons IsAccess e [] access (All-nil IsAccess));
     each = λ j past. own_entries-other history e j (λ q. let p = sym q ∙ mine in omega arith) ∙ none.each j past;
   }
 
@@ -88,13 +92,14 @@ module _ {C S : Type 0} (m : Meaning S) (state : C → S) (spare : C → ℕ) wh
       good.legal (good.leads ∙ sym led.flat) ready
   turn_keeps w v i old new (Some e) good at same boards history led stays ready =
       let mine : board_of e ≡ i = led.board ∙ good.sound.number i old at in
+      let access : IsAccess e = carries_access m old.segs old.budget (course_now m state old) (course_now m state new) e led.carried in
       let within : i < length w.boards.items = slice_get_within w.boards.items i old at in
       let F : Flat = w.beginning.flat.value in
       let allowed : IsAllowed (flat_after F w.history.items) e = subst (λ (G : Flat). IsAllowed G e) (sym good.leads) led.allowed in
       good_by w v (set w.boards.items i new) (w.history.items ++ e ∷ []) same boards history
-      (follow_entry w.beginning.budget w.beginning.boards.value.items w.history.items w.boards.items i old new w.flat v.flat e good.boards at mine led stays)
+      (follow_entry w.beginning.budget w.beginning.boards.value.items w.history.items w.boards.items i old new w.flat v.flat e good.boards at access mine led stays)
       (sound-set m state spare w.boards.items i old new good.sound at stays)
-      (none_of w.boards.items i new (w.history.items ++ e ∷ []) (none_more (length w.boards.items) w.history.items e i mine within good.no_others))
+      (none_of w.boards.items i new (w.history.items ++ e ∷ []) (none_more (length w.boards.items) w.history.items e i access mine within good.no_others))
       (legal-snoc F w.history.items e good.legal allowed)
       (flat_after-snoc F w.history.items e ∙ ap (λ (G : Flat). on G e) good.leads ∙ sym led.flat) ready
 
@@ -120,7 +125,7 @@ module _ {C S : Type 0} (m : Meaning S) (state : C → S) (spare : C → ℕ) wh
   fresh_good w all ready none starts flat = record {
     boards = subst (λ (z : Vec (Board C) Global × List Entry). AllFollow m state spare w.beginning.budget z.0.items z.1 w.boards.items) (λ k. (sym starts k, sym none k)) (fresh_follow w.beginning.budget w.boards.items all);
     sound = record { number = λ i b e. (all.each i b e).number; sound = λ i b e. record { going = λ _. (all.each i b e).going } };
-    no_others = subst (HasNoOthers (length w.boards.items)) (sym none) record { each = λ i past. refl };
+    no_others = subst (HasNoOthers (length w.boards.items)) (sym none) record { accesses = All-nil IsAccess; each = λ i past. refl };
     legal = subst (IsLegal w.beginning.flat.value) (sym none) tt;
     leads = ap (flat_after w.beginning.flat.value) none ∙ flat;
     ready = ready;

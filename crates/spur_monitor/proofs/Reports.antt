@@ -1,12 +1,13 @@
 -- A good machine whose boards have all ended makes a report of a whole run.
 use Rattle.std.proofs.Common.{◌≡◌, ℕ, zero, suc, ◌<◌, get_or, Option, Some, List, [], ◌∷◌, length, map, sym, refl, ap, ◌∙◌, subst, arith}
-use Rattle.std.specs.Prelude.{IsSome, IsSomeAnd, option_map, slice_get}
+use Rattle.std.specs.Prelude.{All, IsSome, IsSomeAnd, option_map, slice_get}
 use Rattle.std.proofs.lemmas.List.{length-map}
 use Rattle.std.proofs.lemmas.Option.{get_or_from_slice_get, slice_get-get_or, slice_get_within}
 use Rattle.spur_object.specs.declared.unit.BoardText.{BoardText}
 use Rattle.spur_flat.specs.declared.entry.Entry.{Entry}
 use Rattle.spur_flat.specs.declared.flat.Flat.{Flat}
 use Rattle.spur_flat.specs.History.{IsLegal, flat_after, own_entries}
+use Rattle.spur_flat.specs.StateLaws.{IsAccess}
 use Rattle.spur_cpu.specs.declared.plain.PlainCpu.{PlainCpu}
 use Rattle.spur_cpu.specs.After.{Course, IsLed, begun}
 use Rattle.spur_cpu.specs.Plain.{Plain, plain}
@@ -65,6 +66,7 @@ module _ (budget : ℕ) (texts : List BoardText) (F : Flat) (w : Machine PlainCp
   in_order : IsInProgramOrder budget texts report
   in_order = record {
     count = ap length run.says.boards ∙ length-map _ _ ∙ run.good.boards.same ∙ run.begun.same;
+    accesses = subst (All IsAccess) (sym run.says.history) run.good.no_others.accesses;
     no_others = λ i past.
         let same = run.good.boards.same in
         let also = run.begun.same in

@@ -15,6 +15,7 @@ use Rattle.spur_flat.specs.Table.{entry_at, place_in, place_of, table_words, wal
 use Rattle.spur_flat.specs.Validity.{IsValidFlat}
 use Rattle.spur_flat.specs.History.{IsAllowed, on, with_word}
 use Rattle.spur_flat.specs.Laws.{address_of}
+use Rattle.spur_flat.specs.StateLaws.{IsAccess}
 use Rattle.spur_flat.proofs.WalkFacts.{data_within, done_is_valid, entry_at-same, walk_of-entry}
 use Rattle.spur_cpu.specs.Meaning.{is_ending}
 use Rattle.spur_monitor.specs.Resident.{IsAllResident}
@@ -93,11 +94,12 @@ resident-with_word F place value ok all past = record {
       };
 }
 
--- an allowed entry leaves every declared page at hand
-pub resident-on : (F : Flat) (entry : Entry) → IsValidFlat F → IsAllResident F → address_of entry < 2 ^ 38 → IsAllowed F entry → IsAllResident (on F entry)
-resident-on F (Load board at value) ok all small allowed = all
-resident-on F (Store board at value) ok all small allowed =
+-- an allowed access leaves every declared page at hand
+pub resident-on : (F : Flat) (entry : Entry) → IsAccess entry → IsValidFlat F → IsAllResident F → address_of entry < 2 ^ 38 → IsAllowed F entry → IsAllResident (on F entry)
+resident-on F (Load board at value) is ok all small allowed = all
+resident-on F (Store board at value) is ok all small allowed =
     resident-with_word F (place_of F at) value ok all (past_tables F access.Store at (walk_of F at) ok small refl allowed)
-resident-on F (Tas board at old) ok all small allowed =
+resident-on F (Tas board at old) is ok all small allowed =
     resident-with_word F (place_of F at) 1 ok all (past_tables F access.Tas at (walk_of F at) ok small refl allowed.0)
-resident-on F (Fault board kind access at) ok all small allowed = all
+resident-on F (Fault board kind access at) is ok all small allowed = all
+resident-on F entry is ok all small allowed = absurd is

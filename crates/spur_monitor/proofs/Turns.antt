@@ -6,11 +6,13 @@ use Rattle.std.proofs.lemmas.List.Elements.{filter-append}
 use Rattle.spur_flat.specs.declared.entry.Entry.{Entry}
 use Rattle.spur_flat.specs.declared.entry.Entry.TheVariants.{Load, Store, Tas, Fault}
 use Rattle.spur_flat.specs.History.{is_own, own_entries}
+use Rattle.spur_flat.specs.Blocks.{board_of}
+use Rattle.spur_flat.specs.StateLaws.{IsAccess}
 use Rattle.spur_cpu.specs.Meaning.{Meaning}
 use Rattle.spur_cpu.specs.After.{IsLed, begun}
 use Rattle.spur_monitor.specs.declared.board.Board.{Board}
 use Rattle.spur_monitor.specs.declared.report.Ending.{Ending}
-use Rattle.spur_monitor.specs.Boards.{IsSound, Stays, board_of, course_now}
+use Rattle.spur_monitor.specs.Boards.{IsSound, Stays, course_now}
 use Rattle.spur_monitor.specs.Machines.{AllFollow, AllSound, Follows, HasMoved, left_in, left_of}
 
 pub got_set : {A : Type 0} (xs : List A) (i j : ℕ) (a b : A) → slice_get (set xs i a) j ≡ Some b → ((j ≡ i) × (a ≡ b)) ⊎ ((j ≢ i) × (slice_get xs j ≡ Some b))
@@ -40,22 +42,24 @@ none-read {C} boards i first second lt a b h =
     let same : first ≡ second = cc in
     none_if second.ended (ap (λ (x : Board C). is_some x.ended) (sym same) ∙ h)
 
-is_own-mine : (e : Entry) (i : ℕ) → board_of e ≡ i → is_own i e ≡ true
-is_own-mine (Load board at value) i is = eq-eqb board i is
-is_own-mine (Store board at value) i is = eq-eqb board i is
-is_own-mine (Tas board at old) i is = eq-eqb board i is
-is_own-mine (Fault board kind access at) i is = eq-eqb board i is
+is_own-mine : (e : Entry) (i : ℕ) → IsAccess e → board_of e ≡ i → is_own i e ≡ true
+is_own-mine (Load board at value) i access is = eq-eqb board i is
+is_own-mine (Store board at value) i access is = eq-eqb board i is
+is_own-mine (Tas board at old) i access is = eq-eqb board i is
+is_own-mine (Fault board kind asked at) i access is = eq-eqb board i is
+is_own-mine e i access is = absurd access
 
 is_own-other : (e : Entry) (i : ℕ) → board_of e ≢ i → is_own i e ≡ false
 is_own-other (Load board at value) i is = ne_eqb board i is
 is_own-other (Store board at value) i is = ne_eqb board i is
 is_own-other (Tas board at old) i is = ne_eqb board i is
 is_own-other (Fault board kind access at) i is = ne_eqb board i is
+is_own-other e i is = refl
 
--- one more entry is one more of its board, and none of another
-pub own_entries-mine : (history : List Entry) (e : Entry) (i : ℕ) → board_of e ≡ i → own_entries (history ++ e ∷ []) i ≡ own_entries history i ++ e ∷ []
-own_entries-mine history e i is =
-    let one : own_entries (e ∷ []) i ≡ e ∷ [] = ap (λ (b : Bool). if b then e ∷ [] else []) (is_own-mine e i is) in
+-- one more access is one more entry of its board, and none of another
+pub own_entries-mine : (history : List Entry) (e : Entry) (i : ℕ) → IsAccess e → board_of e ≡ i → own_entries (history ++ e ∷ []) i ≡ own_entries history i ++ e ∷ []
+own_entries-mine history e i access is =
+    let one : own_entries (e ∷ []) i ≡ e ∷ [] = ap (λ (b : Bool). if b then e ∷ [] else []) (is_own-mine e i access is) in
     filter-append (is_own i) history (e ∷ []) ∙ ap (λ (r : List Entry). own_entries history i ++ r) one
 
 pub own_entries-other : (history : List Entry) (e : Entry) (i : ℕ) → board_of e ≢ i → own_entries (history ++ e ∷ []) i ≡ own_entries history i

@@ -9,6 +9,7 @@ use Rattle.spur_flat.specs.declared.flat.Flat.{Flat}
 use Rattle.spur_flat.specs.Access.{miss_of}
 use Rattle.spur_flat.specs.Table.{walk_of, data_word}
 use Rattle.spur_flat.specs.History.{IsAllowed, on}
+use Rattle.spur_flat.specs.Blocks.{board_of}
 use Rattle.spur_cpu.specs.declared.cpu.Want.{Want}
 use Rattle.spur_cpu.specs.declared.cpu.Want.TheVariants.{Ended}
 use Rattle.spur_cpu.specs.declared.cpu.Answer.TheVariants.{Done, Faulted}
@@ -39,18 +40,13 @@ entry_by F board kind at value (Some fault) = Fault board fault kind at
 abbrev pub entry_of : Flat → ℕ → AccessKind → ℕ → ℕ → Entry
 entry_of F board kind at value = entry_by F board kind at value (miss_of (walk_of F at) kind at)
 
-abbrev pub board_of : Entry → ℕ
-board_of (Load board at value) = board
-board_of (Store board at value) = board
-board_of (Tas board at old) = board
-board_of (Fault board kind access at) = board
-
--- an entry that completes an instruction or ends its board
+-- an entry that completes an instruction or ends its board: none of the bus or of the pager does
 abbrev pub IsLast : Entry → Type 0
 IsLast (Load board at value) = Unit {0}
 IsLast (Store board at value) = Unit {0}
 IsLast (Tas board at old) = Unit {0}
 IsLast (Fault board kind access at) = is_ending kind ≡ true
+IsLast _ = ⊥
 
 -- the boards with processors of a type C, which are in states of S
 module _ {C S : Type 0} (m : Meaning S) (state : C → S) where
@@ -74,12 +70,13 @@ module _ {C S : Type 0} (m : Meaning S) (state : C → S) where
     pub retired : new.retired ≡ old.retired
     pub ended : new.ended ≡ Some (ending.Faulted kind at)
 
-  -- the board after an entry
+  -- the board after an entry: no board takes one of the bus or of the pager
   abbrev pub TakenBy : Board C → Entry → Board C → Type 0
   TakenBy old (Load board at value) new = HasDone old value new
   TakenBy old (Store board at value) new = HasDone old value new
   TakenBy old (Tas board at word) new = HasDone old word new
   TakenBy old (Fault board kind access at) new = HasFaulted old kind at new
+  TakenBy old _ new = ⊥
 
   -- an entry leads a board and a flat state to these
   pub record LedByEntry (F : Flat) (old : Board C) (entry : Entry) (G : Flat) (new : Board C) : Type 0 where

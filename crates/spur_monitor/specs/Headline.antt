@@ -1,7 +1,7 @@
 -- The headline. For every accepted program text the run gives one history: each board's loads, stores and test-and-sets
 -- stand in it once and in program order, each answered or faulted as one machine over flat memory and its page table then
 -- may; and the registers, the final memory and the text written are that history's.
-use Rattle.std.specs.Prelude.{◌≡◌, ℕ, ◌≤◌, List, [], length, Option, Some, Ok, IsSome, IsSomeAnd, slice_get, option_map}
+use Rattle.std.specs.Prelude.{◌≡◌, ℕ, ◌≤◌, List, [], length, Option, Some, Ok, IsSome, IsSomeAnd, All, slice_get, option_map}
 use Rattle.spur_io.specs.Told.{Loses, IsAtEnd}
 use Rattle.spur_object.specs.declared.unit.Unit.{Unit as Program}
 use Rattle.spur_object.specs.declared.unit.BoardText.{BoardText}
@@ -9,6 +9,7 @@ use Rattle.spur_asm.specs.Says.{Says}
 use Rattle.spur_flat.specs.declared.flat.Flat.{Flat}
 use Rattle.spur_flat.specs.declared.entry.Entry.{Entry}
 use Rattle.spur_flat.specs.History.{IsLegal, flat_after, own_entries}
+use Rattle.spur_flat.specs.StateLaws.{IsAccess}
 use Rattle.spur_monitor.specs.declared.report.Ending.{Ending}
 use Rattle.spur_monitor.specs.declared.report.Ending.TheVariants as ending
 use Rattle.spur_monitor.specs.declared.report.BoardReport.{BoardReport}
@@ -47,11 +48,12 @@ stop_of ending.Halted = Halted
 stop_of (ending.Faulted kind at) = Faulty kind at
 stop_of ending.Spent = Spent
 
--- program order: as many boards are reported as the text has, and no entry is of another board; each board's own entries
--- are its program's accesses, each once and in order, up to where it is; and its registers and shown values are the
--- report's
+-- program order: as many boards are reported as the text has; each entry is an access or a fault of one, and none is of
+-- another board; each board's own entries are its program's accesses, each once and in order, up to where it is; and its
+-- registers and shown values are the report's
 pub record IsInProgramOrder (budget : ℕ) (boards : List BoardText) (report : Report) : Type 0 where
   pub count : length report.boards ≡ length boards
+  pub accesses : All IsAccess report.history
   pub no_others : (i : ℕ) → length boards ≤ i → own_entries report.history i ≡ []
   pub each : (i : ℕ) (text : BoardText) (board : BoardReport) → slice_get boards i ≡ Some text → slice_get report.boards i ≡ Some board
       → IsSomeAnd (course_of budget text report.history i board.retired) (ShowsCourse board)

@@ -4,6 +4,7 @@ use Rattle.spur_flat.specs.declared.entry.Entry.{Entry}
 use Rattle.spur_flat.specs.declared.flat.Flat.{Flat}
 use Rattle.spur_flat.specs.Validity.{IsValidFlat}
 use Rattle.spur_flat.specs.History.{IsLegal, flat_after, own_entries}
+use Rattle.spur_flat.specs.StateLaws.{IsAccess}
 use Rattle.spur_cpu.specs.Meaning.{Meaning}
 use Rattle.spur_cpu.specs.After.{IsLed, begun}
 use Rattle.spur_monitor.specs.declared.board.Board.{Board}
@@ -12,8 +13,9 @@ use Rattle.spur_monitor.specs.declared.report.Ending.{Ending}
 use Rattle.spur_monitor.specs.Resident.{IsAllResident}
 use Rattle.spur_monitor.specs.Boards.{IsGoing, IsSound, course_now}
 
--- no entry is of a board that is not there
+-- each entry is an access or a fault of one, and none is of a board that is not there
 pub record HasNoOthers (count : ℕ) (history : List Entry) : Type 0 where
+  pub accesses : All IsAccess history
   pub each : (i : ℕ) → count ≤ i → own_entries history i ≡ []
 
 -- a flat state in which boards may run

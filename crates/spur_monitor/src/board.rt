@@ -137,6 +137,7 @@ impl<C: Cpu> Board<C> {
                     at: *at,
                 });
             }
+            _ => unreachable!(),
         }
     }
 

@@ -1,0 +1,4 @@
+pub mod CacheFacts
+pub mod SpanFacts
+pub mod SizeFacts
+pub mod LawFacts

@@ -1,0 +1,5 @@
+use Rattle.std.proofs.Common.{refl, arith}
+use Rattle.spur_flat.proofs.replays.wide.Goals as goal
+
+pub new-requires-clause-lines : goal.new-requires-clause-lines
+new-requires-clause-lines c = record { exponent = 12; power = refl; some_lines = omega arith; few_lines = omega arith }
