@@ -1,0 +1,5 @@
+pub mod FreeFacts
+pub mod RoundFacts
+pub mod DifferFacts
+pub mod ClockFacts
+pub mod LoopFacts

@@ -1,0 +1,67 @@
+//! A swap object in memory that never fails.
+ghost use Rattle.std.specs.Prelude.{◌≡◌, Some, []};
+ghost use Rattle.spur_swap.specs.Pages.{slots_of};
+
+use crate::backing::{Backing, PrepareFault};
+use crate::pages::Pages;
+use spur_io::Failed;
+use std::alloc::Global;
+use std::marker::Model;
+
+/// Pages in memory. It tells its pages, and its count of faults is 0 for good: so no read and no
+/// write fails, and `prepare` is refused only for want of memory. Contracts see a record of
+/// `specs/Kept.antt`.
+#[derive(Drop)]
+pub struct SwapMemory {
+    pages: Pages,
+    reads: u32,
+}
+
+impl Model for SwapMemory {
+    ghost use Rattle.spur_swap.specs.Kept.{Kept};
+
+    ghost Value = { Kept };
+
+    ghost view = { λ s. record { words = s.pages; reads = s.reads } };
+}
+
+impl SwapMemory {
+    /// No slots, and no read so far. Takes no memory yet.
+    pub fn new(alloc: Global) -> SwapMemory
+        ensures { result ≡ record { words = []; reads = 0 } }
+    {
+        SwapMemory {
+            pages: Pages::new(alloc),
+            reads: 0,
+        }
+    }
+}
+
+impl Backing for SwapMemory {
+    ghost pages = { λ s. Some s.words };
+
+    ghost slot_count = { λ s. slots_of s.words };
+
+    ghost faults = { λ s. 0 };
+
+    ghost reads = { λ s. s.reads };
+
+    /// Is refused only for want of memory for the pages.
+    fn prepare(&mut self, slots: u32) -> Result<(), PrepareFault> {
+        self.pages.prepare(slots)?;
+        Ok(())
+    }
+
+    /// Never fails. Takes no memory.
+    fn read_page(&mut self, slot: u32, into: &mut [u32; 1024]) -> Result<(), Failed> {
+        self.reads = self.reads.saturating_add(1);
+        self.pages.read(slot, into);
+        Ok(())
+    }
+
+    /// Never fails. Takes no memory.
+    fn write_page(&mut self, slot: u32, from: &[u32; 1024]) -> Result<(), Failed> {
+        self.pages.write(slot, from);
+        Ok(())
+    }
+}

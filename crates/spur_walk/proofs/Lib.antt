@@ -1,0 +1,15 @@
+pub mod FrameFacts
+pub mod TableFacts
+pub mod PlanFacts
+pub mod PutFacts
+pub mod FillFacts
+pub mod StepFacts
+pub mod WalkFacts
+pub mod AnswerFacts
+pub mod ServeFacts
+pub mod BoundFacts
+pub mod FallFacts
+pub mod ValidFacts
+pub mod BeginFacts
+pub mod TestFacts
+pub mod CarryFacts
