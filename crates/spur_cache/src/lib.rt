@@ -1,9 +1,9 @@
 //! One board's cache.
 //!
 //! As in SPUR it is direct-mapped and virtual: a line holds a block of eight words by its global
-//! virtual address, so that an access that finds its line needs no page table, and with the block a
-//! copy of what the page-table entry allows. A line that is not valid stands for nothing, and
-//! contracts see none there.
+//! virtual address, so that an access that finds its line needs no page table. With the block stands a
+//! copy of what the page-table entry allows, which is this project's own choice. A line that is not
+//! valid stands for nothing, and contracts see none there.
 #![tactic(auto)]
 
 mod cache;

@@ -5,8 +5,8 @@ use spur_snoop::BlockState;
 
 /// A block that a cache holds, with what the cache keeps of its page-table entry.
 ///
-/// The copies of the protection and the dirty bit are SPUR's; so is that they may be older than the
-/// entry.
+/// The frame that is kept with it, the copies of the protection and the dirty bit, and that the dirty
+/// copy may be clear where the entry's bit is set by now, are this project's own choice.
 #[derive(Clone, Copy, Debug, PartialEq, Eq)]
 pub struct Line {
     /// The number of the block, below 2^33: its global address without the low five bits.

@@ -1,8 +1,8 @@
 //! The ownership rules on cache lines: eighteen conditions, by their numbers.
 //!
 //! That a block is written where it is owned alone, and that others are told, are rules of the Berkeley Ownership
-//! protocol. That a line has copies of the page's protection and dirty bit is SPUR's. The conditions' numbers, and the
-//! order in which they are tried, are this project's own choice.
+//! protocol. That a line has copies of the page's protection and dirty bit, the conditions' numbers, and the order in which
+//! they are tried, are this project's own choice.
 
 ghost use Rattle.std.specs.Prelude.{◌≡◌, IsTrue, None, slice_index};
 ghost use Rattle.spur_addr.specs.PageEntry.{is_readable};

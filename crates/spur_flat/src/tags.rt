@@ -24,7 +24,8 @@ use std::marker::Model;
 ///
 /// Contracts see a list of the boards, each a list of its lines: nothing, or a block with its state, its frame and the
 /// line's copies of the page's protection and dirty bit. There is no data. The states, and how a transaction of one board
-/// moves the others, are those of the Berkeley Ownership protocol; the copies are SPUR's.
+/// moves the others, are those of the Berkeley Ownership protocol; the copies are this
+/// project's own choice.
 #[derive(Debug, Drop)]
 pub struct Tags {
     boards: Vec<TagLines>,
