@@ -471,12 +471,18 @@ may_be caches memory b at kind (Some line) Miss standing seen = may_user (logica
 aligned_may : (o : Option ℕ) (kind : AccessKind) (at : ℕ) (answer : Option FaultKind) → is_aligned at ≡ true → may_aligned o kind answer ≡ true → may o kind at answer ≡ true
 aligned_may o kind at answer aligned h = ap (λ (x : Bool). if x then may_aligned o kind answer else is_align answer) aligned ∙ h
 
+-- the fault that is answered is that of the access, were its address aligned
+pub fault-applies : (caches : List (List (Option Line))) (memory : List ℕ) (b at : ℕ) (kind : AccessKind) (why : FaultKind) → IsStanding caches memory b at → answer_of b at (access_plan caches memory b at (need_of kind)) ≡ walked.Fault why
+    → may_aligned (walk_of (logical_flat caches memory) at) kind (Some why) ≡ true
+fault-applies caches memory b at kind why standing h =
+    let F : Flat = logical_flat caches memory in
+    let by = may_be caches memory b at kind (line_of_block caches b (entry_address_of at)) (look_of (line_of_block caches b at) (need_of kind)) standing refl in
+    subst (λ (p : Plan). MayBe F at kind p) (plan_fault b at (access_plan caches memory b at (need_of kind)) why h) by
+
 pub fault-stands : FaultMayStand
 fault-stands caches memory b at kind why standing aligned h =
     let F : Flat = logical_flat caches memory in
-    let by = may_be caches memory b at kind (line_of_block caches b (entry_address_of at)) (look_of (line_of_block caches b at) (need_of kind)) standing refl in
-    let applies : may_aligned (walk_of F at) kind (Some why) ≡ true =
-    subst (λ (p : Plan). MayBe F at kind p) (plan_fault b at (access_plan caches memory b at (need_of kind)) why h) by in
+    let applies = fault-applies caches memory b at kind why standing h in
     record {
       told = λ (rest : Flat). aligned_may (walk_of F at) kind at (Some why) aligned applies;
       untold = λ (G : Flat) (has : HasTablesOf G (logical_words caches memory)).

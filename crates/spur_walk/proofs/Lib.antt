@@ -2,6 +2,7 @@ pub mod FrameFacts
 pub mod TableFacts
 pub mod PlanFacts
 pub mod PutFacts
+pub mod WordFacts
 pub mod FillFacts
 pub mod StepFacts
 pub mod WalkFacts

@@ -1,5 +1,5 @@
--- A line of a cache, put in the place of one that is like it.
-use Rattle.std.proofs.Common.{◌≡◌, ◌≢◌, ◌∙◌, ℕ, zero, suc, ◌+◌, ◌*◌, ◌/◌, ◌%◌, ◌<◌, ◌≤◌, ⊎_elim, true, ap, sym, refl, subst, List, [], ◌∷◌, get_or, length, slice_get, slice_set, slice_index, Option, Some, None}
+-- A line of a cache, put in the place of one that differs from it in its words, its protection and its dirty copy alone.
+use Rattle.std.proofs.Common.{◌≡◌, ◌≢◌, ◌∙◌, ℕ, zero, suc, ◌+◌, ◌*◌, ◌/◌, ◌%◌, ◌^◌, ◌<◌, ◌≤◌, ⊎_elim, true, ap, sym, refl, subst, List, [], ◌∷◌, get_or, length, slice_get, slice_set, slice_index, Option, Some, None}
 use Rattle.std.proofs.lemmas.Bool.{cases_eq}
 use Rattle.std.proofs.lemmas.List.{length-set}
 use Rattle.std.proofs.lemmas.Option.{slice_get-get_or}
@@ -34,6 +34,9 @@ line-put caches b s fresh t within =
 line-old : (caches : List (List (Option Line))) (b t : ℕ) → b < length caches → line_in caches b t ≡ line_at (get_or caches b []) t
 line-old caches b t within = ap (λ (o : Option (List (Option Line))). line_of o t) (board caches b within)
 
+pub stood : (caches : List (List (Option Line))) (b s : ℕ) (line : Line) → b < length caches → line_in caches b s ≡ Some line → line_at (get_or caches b []) s ≡ Some line
+stood caches b s line within there = sym (line-old caches b s within) ∙ there
+
 line-other : (caches : List (List (Option Line))) (b s : ℕ) (fresh : Line) (i t : ℕ) → i ≢ b → line_in (put caches b s fresh) i t ≡ line_in caches i t
 line-other caches b s fresh i t apart = ap (λ (o : Option (List (Option Line))). line_of o t) (slice_get-set_other caches b i (slice_set (get_or caches b []) s (Some fresh)) apart)
 
@@ -56,7 +59,7 @@ put_from caches b s fresh i t l within h =
 
 pub put_here : (caches : List (List (Option Line))) (b s : ℕ) (fresh line : Line) → b < length caches → line_in caches b s ≡ Some line → line_in (put caches b s fresh) b s ≡ Some fresh
 put_here caches b s fresh line within there =
-    line-put caches b s fresh s within ∙ set_there (get_or caches b []) s (Some fresh) (line_within (get_or caches b []) s line (sym (line-old caches b s within) ∙ there))
+    line-put caches b s fresh s within ∙ set_there (get_or caches b []) s (Some fresh) (line_within (get_or caches b []) s line (stood caches b s line within there))
 
 pub put_there : (caches : List (List (Option Line))) (b s : ℕ) (fresh : Line) (i t : ℕ) (l : Line) → b < length caches → line_in caches i t ≡ Some l → (i ≡ b → t ≡ s → ⊥) → line_in (put caches b s fresh) i t ≡ Some l
 put_there caches b s fresh i t l within there away =
@@ -68,39 +71,46 @@ put_there caches b s fresh i t l within there away =
     (λ (apart : i ≢ b). line-other caches b s fresh i t apart ∙ there)
     (cases_eq i b)
 
--- the new line is as the old one but for its protection and its dirty copy
-pub record IsLike (old new : Line) : Type 0 where
+-- the new line is as the old one but for its words, its protection and its dirty copy
+pub record IsAlike (old new : Line) : Type 0 where
   pub tag : new.tag ≡ old.tag
   pub frame : new.frame ≡ old.frame
   pub state : new.state ≡ old.state
-  pub words : new.words ≡ old.words
+  pub full : length new.words ≡ 8
 
 pub record Was (caches : List (List (Option Line))) (i t : ℕ) (l : Line) : Type 0 where
   pub old : Line
   pub there : line_in caches i t ≡ Some old
-  pub like : IsLike old l
+  pub tag : l.tag ≡ old.tag
+  pub frame : l.frame ≡ old.frame
+  pub state : l.state ≡ old.state
 
-was_in : (caches : List (List (Option Line))) (b s : ℕ) (fresh line : Line) (i t : ℕ) (l : Line) → line_in caches b s ≡ Some line → IsLike line fresh → Put caches b s fresh i t l → Was caches i t l
-was_in caches b s fresh line i t l there like (Here e f is) =
-    record { old = line; there = ap (λ (n : ℕ). line_in caches n t) e ∙ ap (λ (n : ℕ). line_in caches b n) f ∙ there; like = subst (λ (m : Line). IsLike line m) (sym is) like }
-was_in caches b s fresh line i t l there like (There stood away) = record { old = l; there = stood; like = record { tag = refl; frame = refl; state = refl; words = refl } }
+was_in : (caches : List (List (Option Line))) (b s : ℕ) (fresh line : Line) (i t : ℕ) (l : Line) → line_in caches b s ≡ Some line → IsAlike line fresh → Put caches b s fresh i t l → Was caches i t l
+was_in caches b s fresh line i t l there like (Here e f is) = record {
+  old = line;
+  there = ap (λ (n : ℕ). line_in caches n t) e ∙ ap (λ (n : ℕ). line_in caches b n) f ∙ there;
+  tag = ap (λ (m : Line). m.tag) is ∙ like.tag;
+  frame = ap (λ (m : Line). m.frame) is ∙ like.frame;
+  state = ap (λ (m : Line). m.state) is ∙ like.state;
+}
+was_in caches b s fresh line i t l there like (There stood away) = record { old = l; there = stood; tag = refl; frame = refl; state = refl }
 
-pub was : (caches : List (List (Option Line))) (b s : ℕ) (fresh line : Line) (i t : ℕ) (l : Line) → b < length caches → line_in caches b s ≡ Some line → IsLike line fresh → line_in (put caches b s fresh) i t ≡ Some l → Was caches i t l
+pub was : (caches : List (List (Option Line))) (b s : ℕ) (fresh line : Line) (i t : ℕ) (l : Line) → b < length caches → line_in caches b s ≡ Some line → IsAlike line fresh → line_in (put caches b s fresh) i t ≡ Some l → Was caches i t l
 was caches b s fresh line i t l within there like h = was_in caches b s fresh line i t l there like (put_from caches b s fresh i t l within h)
 
-pub record WasCache (caches : List (List (Option Line))) (i : ℕ) (lines : List (Option Line)) : Type 0 where
+record WasCache (caches : List (List (Option Line))) (i : ℕ) (lines : List (Option Line)) : Type 0 where
   pub old : List (Option Line)
   pub there : slice_get caches i ≡ Some old
   pub size : length lines ≡ length old
   pub cache : IsCache lines
 
-put_cache : (own : List (Option Line)) (s : ℕ) (fresh line : Line) → IsCache own → line_at own s ≡ Some line → IsLike line fresh → IsCache (slice_set own s (Some fresh))
+put_cache : (own : List (Option Line)) (s : ℕ) (fresh line : Line) → IsCache own → line_at own s ≡ Some line → IsAlike line fresh → IsCache (slice_set own s (Some fresh))
 put_cache own s fresh line cache there like =
     let held = cache.held s line there in
     let sound : IsHeld fresh = record {
       valid = λ dead. held.valid (sym like.state ∙ dead);
-      tag = subst (λ (n : ℕ). n < 8589934592) (sym like.tag) held.tag;
-      words = ap (λ (ws : List ℕ). length ws) like.words ∙ held.words;
+      tag = subst (λ (n : ℕ). n < 2 ^ 33) (sym like.tag) held.tag;
+      words = like.full;
     } in
     let place : slot_of own fresh.tag ≡ s = ap (slot_of own) like.tag ∙ cache.placed s line there in
     cache-set own s (Some fresh) cache (record {
@@ -108,7 +118,7 @@ put_cache own s fresh line cache there like =
       held = λ (l : Line) (is : Some fresh ≡ Some l). subst IsHeld (some_same fresh l is) sound;
     })
 
-was_cache : (caches : List (List (Option Line))) (b s : ℕ) (fresh line : Line) (i : ℕ) (lines : List (Option Line)) → Agrees caches → b < length caches → line_in caches b s ≡ Some line → IsLike line fresh
+was_cache : (caches : List (List (Option Line))) (b s : ℕ) (fresh line : Line) (i : ℕ) (lines : List (Option Line)) → Agrees caches → b < length caches → line_in caches b s ≡ Some line → IsAlike line fresh
     → slice_get (put caches b s fresh) i ≡ Some lines → WasCache caches i lines
 was_cache caches b s fresh line i lines agree within here like h =
     let own : List (Option Line) = get_or caches b [] in
@@ -120,17 +130,17 @@ was_cache caches b s fresh line i lines agree within here like h =
       old = own;
       there = ap (λ (n : ℕ). slice_get caches n) e ∙ board caches b within;
       size = ap (λ (ls : List (Option Line)). length ls) (sym is) ∙ length-set own s (Some fresh);
-      cache = subst IsCache is (put_cache own s fresh line (agree.each b own (board caches b within)) (sym (line-old caches b s within) ∙ here) like);
+      cache = subst IsCache is (put_cache own s fresh line (agree.each b own (board caches b within)) (stood caches b s line within here) like);
     })
     (λ (apart : i ≢ b).
-    let stood : slice_get caches i ≡ Some lines = sym (slice_get-set_other caches b i (slice_set own s (Some fresh)) apart) ∙ h in
-    record { old = lines; there = stood; size = refl; cache = agree.each i lines stood })
+    let kept : slice_get caches i ≡ Some lines = sym (slice_get-set_other caches b i (slice_set own s (Some fresh)) apart) ∙ h in
+    record { old = lines; there = kept; size = refl; cache = agree.each i lines kept })
     (cases_eq i b)
 
 pub length-put : (caches : List (List (Option Line))) (b s : ℕ) (fresh : Line) → length (put caches b s fresh) ≡ length caches
 length-put caches b s fresh = length-set caches b (slice_set (get_or caches b []) s (Some fresh))
 
-pub agrees-put : (caches : List (List (Option Line))) (b s : ℕ) (fresh line : Line) → Agrees caches → b < length caches → line_in caches b s ≡ Some line → IsLike line fresh → Agrees (put caches b s fresh)
+pub agrees-put : (caches : List (List (Option Line))) (b s : ℕ) (fresh line : Line) → Agrees caches → b < length caches → line_in caches b s ≡ Some line → IsAlike line fresh → Agrees (put caches b s fresh)
 agrees-put caches b s fresh line agree within here like =
     let news : List (List (Option Line)) = put caches b s fresh in
     let back : (i t : ℕ) (l : Line) → line_in news i t ≡ Some l → Was caches i t l = λ (i t : ℕ) (l : Line) (h : line_in news i t ≡ Some l). was caches b s fresh line i t l within here like h in
@@ -146,46 +156,47 @@ agrees-put caches b s fresh line agree within here like =
       one_frame = λ (i j t u : ℕ) (x y : Line) (hx : line_in news i t ≡ Some x) (hy : line_in news j u ≡ Some y) (same : x.tag ≡ y.tag).
           let m = back i t x hx in
           let n = back j u y hy in
-          m.like.frame ∙ agree.one_frame i j t u m.old n.old m.there n.there (sym m.like.tag ∙ same ∙ n.like.tag) ∙ sym n.like.frame;
+          m.frame ∙ agree.one_frame i j t u m.old n.old m.there n.there (sym m.tag ∙ same ∙ n.tag) ∙ sym n.frame;
       one_place = λ (i j t u : ℕ) (x y : Line) (hx : line_in news i t ≡ Some x) (hy : line_in news j u ≡ Some y) (frames : x.frame ≡ y.frame) (places : x.tag % 128 ≡ y.tag % 128).
           let m = back i t x hx in
           let n = back j u y hy in
-          m.like.tag ∙ agree.one_place i j t u m.old n.old m.there n.there (sym m.like.frame ∙ frames ∙ n.like.frame) (ap (λ (k : ℕ). k % 128) (sym m.like.tag) ∙ places ∙ ap (λ (k : ℕ). k % 128) n.like.tag) ∙ sym n.like.tag;
+          m.tag ∙ agree.one_place i j t u m.old n.old m.there n.there (sym m.frame ∙ frames ∙ n.frame) (ap (λ (k : ℕ). k % 128) (sym m.tag) ∙ places ∙ ap (λ (k : ℕ). k % 128) n.tag) ∙ sym n.tag;
       one_owner = λ (i j t u : ℕ) (x y : Line) (hx : line_in news i t ≡ Some x) (hy : line_in news j u ≡ Some y) (same : x.tag ≡ y.tag) (ox : is_owned x.state ≡ true) (oy : is_owned y.state ≡ true).
           let m = back i t x hx in
           let n = back j u y hy in
-          agree.one_owner i j t u m.old n.old m.there n.there (sym m.like.tag ∙ same ∙ n.like.tag) (ap is_owned (sym m.like.state) ∙ ox) (ap is_owned (sym n.like.state) ∙ oy);
+          agree.one_owner i j t u m.old n.old m.there n.there (sym m.tag ∙ same ∙ n.tag) (ap is_owned (sym m.state) ∙ ox) (ap is_owned (sym n.state) ∙ oy);
       exclusive = λ (i j t u : ℕ) (x y : Line) (hx : line_in news i t ≡ Some x) (hy : line_in news j u ≡ Some y) (same : x.tag ≡ y.tag) (ex : x.state ≡ OwnedExclusive).
           let m = back i t x hx in
           let n = back j u y hy in
-          agree.exclusive i j t u m.old n.old m.there n.there (sym m.like.tag ∙ same ∙ n.like.tag) (sym m.like.state ∙ ex);
+          agree.exclusive i j t u m.old n.old m.there n.there (sym m.tag ∙ same ∙ n.tag) (sym m.state ∙ ex);
     }
 
--- the logical memory
-owns_old : (f p : ℕ) (old l : Line) → IsLike old l → OwnsAt f p l → OwnsAt f p old
-owns_old f p old l like o = record { owned = ap is_owned (sym like.state) ∙ o.owned; in_frame = sym like.frame ∙ o.in_frame; in_position = ap (λ (n : ℕ). n % 128) (sym like.tag) ∙ o.in_position }
-
-owns_new : (f p : ℕ) (old l : Line) → IsLike old l → OwnsAt f p old → OwnsAt f p l
-owns_new f p old l like o = record { owned = ap is_owned like.state ∙ o.owned; in_frame = like.frame ∙ o.in_frame; in_position = ap (λ (n : ℕ). n % 128) like.tag ∙ o.in_position }
-
+-- the logical memory, at each word but those in which the two lines differ
 same_two : (caches : List (List (Option Line))) (b s i t : ℕ) (line l : Line) → line_in caches b s ≡ Some line → line_in caches i t ≡ Some l → i ≡ b → t ≡ s → l ≡ line
 same_two caches b s i t line l here there e f =
     some_same l line (sym there ∙ ap (λ (n : ℕ). line_in caches n t) e ∙ ap (λ (n : ℕ). line_in caches b n) f ∙ here)
 
-free_both : (caches : List (List (Option Line))) (b s : ℕ) (fresh line : Line) (memory : List ℕ) (k : ℕ) → b < length caches → line_in caches b s ≡ Some line → IsLike line fresh
+owns_old : (f p : ℕ) (caches : List (List (Option Line))) (i t : ℕ) (l : Line) (w : Was caches i t l) → OwnsAt f p l → OwnsAt f p w.old
+owns_old f p caches i t l w o = record { owned = ap is_owned (sym w.state) ∙ o.owned; in_frame = sym w.frame ∙ o.in_frame; in_position = ap (λ (n : ℕ). n % 128) (sym w.tag) ∙ o.in_position }
+
+pub owns_new : (f p : ℕ) (old l : Line) → IsAlike old l → OwnsAt f p old → OwnsAt f p l
+owns_new f p old l like o = record { owned = ap is_owned like.state ∙ o.owned; in_frame = like.frame ∙ o.in_frame; in_position = ap (λ (n : ℕ). n % 128) like.tag ∙ o.in_position }
+
+free_both : (caches : List (List (Option Line))) (b s : ℕ) (fresh line : Line) (memory : List ℕ) (k : ℕ) → b < length caches → line_in caches b s ≡ Some line → IsAlike line fresh
     → owner_of (k / 1024) (k / 8 % 128) caches ≡ None → ((i t : ℕ) (l : Line) → line_in caches i t ≡ Some l → OwnsAt (k / 1024) (k / 8 % 128) l → ⊥)
     → Owner (put caches b s fresh) (k / 1024) (k / 8 % 128) → logical_word (put caches b s fresh) memory k ≡ logical_word caches memory k
 free_both caches b s fresh line memory k within here like is none (Owned i t l there o words) =
     let w = was caches b s fresh line i t l within here like there in
-    absurd (none i t w.old w.there (owns_old (k / 1024) (k / 8 % 128) w.old l w.like o))
+    absurd (none i t w.old w.there (owns_old (k / 1024) (k / 8 % 128) caches i t l w o))
 free_both caches b s fresh line memory k within here like is none (Free is_new none_new) =
     ap (λ (w : Option (List ℕ)). word_or w (slice_index memory k) k) is_new ∙ sym (ap (λ (w : Option (List ℕ)). word_or w (slice_index memory k) k) is)
 
-kept_by : (caches : List (List (Option Line))) (b s : ℕ) (fresh line : Line) (memory : List ℕ) (k : ℕ) → Agrees caches → b < length caches → line_in caches b s ≡ Some line → IsLike line fresh
+kept_by : (caches : List (List (Option Line))) (b s : ℕ) (fresh line : Line) (memory : List ℕ) (k : ℕ) → Agrees caches → b < length caches → line_in caches b s ≡ Some line → IsAlike line fresh
+    → (OwnsAt (k / 1024) (k / 8 % 128) line → slice_index fresh.words (k % 8) ≡ slice_index line.words (k % 8))
     → Owner caches (k / 1024) (k / 8 % 128) → logical_word (put caches b s fresh) memory k ≡ logical_word caches memory k
-kept_by caches b s fresh line memory k agree within here like (Free is none) =
+kept_by caches b s fresh line memory k agree within here like same (Free is none) =
     free_both caches b s fresh line memory k within here like is none (owner (put caches b s fresh) (k / 1024) (k / 8 % 128))
-kept_by caches b s fresh line memory k agree within here like (Owned i t l there o is) =
+kept_by caches b s fresh line memory k agree within here like same (Owned i t l there o is) =
     let news : List (List (Option Line)) = put caches b s fresh in
     let agree_new : Agrees news = agrees-put caches b s fresh line agree within here like in
     let f : ℕ = k / 1024 in
@@ -196,18 +207,32 @@ kept_by caches b s fresh line memory k agree within here like (Owned i t l there
     (λ (e : i ≡ b).
     ⊎_elim
     (λ (u : t ≡ s).
-    let same : l ≡ line = same_two caches b s i t line l here there e u in
-    let mine : OwnsAt f p line = subst (λ (m : Line). OwnsAt f p m) same o in
+    let mine : OwnsAt f p line = subst (λ (m : Line). OwnsAt f p m) (same_two caches b s i t line l here there e u) o in
     logical_owned news memory k b s fresh agree_new (put_here caches b s fresh line within here) (owns_new f p line fresh like mine)
-    ∙ ap (λ (ws : List ℕ). slice_index ws (k % 8)) like.words ∙ sym (logical_owned caches memory k b s line agree here mine))
+    ∙ same mine ∙ sym (logical_owned caches memory k b s line agree here mine))
     (λ (u : t ≢ s). elsewhere (λ (g : i ≡ b) (v : t ≡ s). u v))
     (cases_eq t s))
     (λ (apart : i ≢ b). elsewhere (λ (g : i ≡ b) (v : t ≡ s). apart g))
     (cases_eq i b)
 
-logical-put : (caches : List (List (Option Line))) (b s : ℕ) (fresh line : Line) (memory : List ℕ) (k : ℕ) → Agrees caches → b < length caches → line_in caches b s ≡ Some line → IsLike line fresh
-    → logical_word (put caches b s fresh) memory k ≡ logical_word caches memory k
-logical-put caches b s fresh line memory k agree within here like = kept_by caches b s fresh line memory k agree within here like (owner caches (k / 1024) (k / 8 % 128))
+pub logical-put : (caches : List (List (Option Line))) (b s : ℕ) (fresh line : Line) (memory : List ℕ) (k : ℕ) → Agrees caches → b < length caches → line_in caches b s ≡ Some line → IsAlike line fresh
+    → (OwnsAt (k / 1024) (k / 8 % 128) line → slice_index fresh.words (k % 8) ≡ slice_index line.words (k % 8)) → logical_word (put caches b s fresh) memory k ≡ logical_word caches memory k
+logical-put caches b s fresh line memory k agree within here like same = kept_by caches b s fresh line memory k agree within here like same (owner caches (k / 1024) (k / 8 % 128))
+
+-- where the words are the same too
+pub record IsLike (old new : Line) : Type 0 where
+  pub tag : new.tag ≡ old.tag
+  pub frame : new.frame ≡ old.frame
+  pub state : new.state ≡ old.state
+  pub words : new.words ≡ old.words
+
+pub alike : (caches : List (List (Option Line))) (b s : ℕ) (fresh line : Line) → Agrees caches → b < length caches → line_in caches b s ≡ Some line → IsLike line fresh → IsAlike line fresh
+alike caches b s fresh line agree within there like = record {
+  tag = like.tag;
+  frame = like.frame;
+  state = like.state;
+  full = ap (λ (ws : List ℕ). length ws) like.words ∙ ((agree.each b (get_or caches b []) (board caches b within)).held s line (stood caches b s line within there)).words;
+}
 
 -- each line serves as before
 same_in : (caches : List (List (Option Line))) (b s : ℕ) (fresh line : Line) (memory : List ℕ) (i t k : ℕ) (l : Line) → Serves caches memory → line_in caches b s ≡ Some line → IsLike line fresh
@@ -221,13 +246,14 @@ pub keeps-put : (caches : List (List (Option Line))) (b s : ℕ) (fresh line : L
     → KeepsWords caches (put caches b s fresh) memory memory
 keeps-put caches b s fresh line memory agree serves within here like =
     let news : List (List (Option Line)) = put caches b s fresh in
+    let as_was : IsAlike line fresh = alike caches b s fresh line agree within here like in
     let word : (k : ℕ) → logical_word news memory k ≡ logical_word caches memory k =
-    λ (k : ℕ). logical-put caches b s fresh line memory k agree within here like in
+    λ (k : ℕ). logical-put caches b s fresh line memory k agree within here as_was (λ (o : OwnsAt (k / 1024) (k / 8 % 128) line). ap (λ (ws : List ℕ). slice_index ws (k % 8)) like.words) in
     record {
       serves = record {
         within = λ (i t : ℕ) (l : Line) (h : line_in news i t ≡ Some l).
-            let w = was caches b s fresh line i t l within here like h in
-            subst (λ (n : ℕ). n * 1024 + 1024 ≤ length memory) (sym w.like.frame) (serves.within i t w.old w.there);
+            let w = was caches b s fresh line i t l within here as_was h in
+            subst (λ (n : ℕ). n * 1024 + 1024 ≤ length memory) (sym w.frame) (serves.within i t w.old w.there);
         words = λ (i t k : ℕ) (l : Line) (h : line_in news i t ≡ Some l) (is : IsAt k l).
             same_in caches b s fresh line memory i t k l serves here like is (put_from caches b s fresh i t l within h) ∙ sym (word k);
       };

@@ -47,7 +47,7 @@ use Rattle.spur_walk.proofs.FrameFacts.{may_read}
 use Rattle.spur_walk.proofs.TableFacts.{word_start}
 use Rattle.spur_walk.proofs.FillFacts.{Suits, above_state, alive, fills_gives, fills_layer, fills_stands, fills_suits, fills_tables, same_start}
 use Rattle.spur_walk.proofs.PlanFacts.{own_cache}
-use Rattle.spur_walk.proofs.PutFacts.{IsLike, Put, Here, There, agrees-put, count-put, keeps-put, length-put, put, put_from}
+use Rattle.spur_walk.proofs.PutFacts.{IsLike, Put, Here, There, agrees-put, alike, count-put, keeps-put, length-put, put, put_from}
 
 -- lines and present pages, line by line
 pub suits_all : (F : Flat) (caches : List (List (Option Line))) (i s : ℕ) (line : Line) → ArePresent F caches → line_in caches i s ≡ Some line → Suits F line
@@ -300,7 +300,7 @@ refresh_did caches memory b g walk within may =
     let word : word_of L (block_address line.tag) ≡ word_of L g = ap (λ (n : ℕ). word_of L (block_address n)) here.tag ∙ word_start L g in
     let kept = keeps-put caches b slot fresh line memory walk.agree walk.serves within there like in
     subst (λ (cs : List (List (Option Line))). Did caches memory cs memory) (sym (dirtied_is caches b g line may.there)) (record {
-      agree = agrees-put caches b slot fresh line walk.agree within there like;
+      agree = agrees-put caches b slot fresh line walk.agree within there (alike caches b slot fresh line walk.agree within there like);
       serves = kept.serves;
       logical = kept.logical;
       mapped = λ (i t : ℕ) (l : Line) (h : line_in (put caches b slot fresh) i t ≡ Some l).
