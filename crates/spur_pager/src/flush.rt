@@ -1,0 +1,114 @@
+//! The lines of a leaving page are flushed.
+
+ghost use Rattle.std.specs.Prelude.{◌≡◌, ◌+◌, ◌<◌, ◌≤◌, IsSome, Some, length, map};
+ghost use Rattle.std.specs.Option.{option_map};
+ghost use Rattle.spur_cache.specs.Lines.{line_at};
+ghost use Rattle.spur_flat.specs.TagRules.{is_alive};
+ghost use Rattle.spur_bus.specs.Calls.{HasLine};
+ghost use Rattle.spur_walk.specs.Tables.{block_address};
+ghost use Rattle.spur_pager.specs.Drops.{DropsBlock, FlushesPage, IsLeavingBlock, IsLeavingPage};
+ghost use Rattle.spur_pager.specs.Flushes.{AreFlushed, IsFlushing};
+ghost use Rattle.spur_pager.specs.Lens.{with_caches};
+ghost use Rattle.spur_pager.specs.Room.{lines_of};
+ghost use Rattle.spur_pager.specs.Stand.{IsServable};
+ghost use Rattle.spur_pager.specs.View.{telling, view_of};
+
+use crate::page::page_address;
+use crate::store::Store;
+use spur_addr::GlobalAddr;
+use spur_bus::block_flush;
+use spur_cache::{Cache, HasCache};
+use spur_swap::Backing;
+
+/// Flushes all lines of a leaving page for board `b`, boards ascending and lines ascending, and appends the flushes. Where
+/// a block is owned, it is written to memory.
+pub(crate) fn flush_page<T: HasCache, B: Backing>(
+    boards: &mut [T],
+    store: &mut Store<B>,
+    b: u32,
+    page: u32,
+)
+    requires own { b < length boards.old }
+    requires stands { IsServable (view_of (telling B.pages B.slot_count B.faults B.reads) (map T.lines_of boards.old) store.old) }
+    requires leaving { IsLeavingPage (view_of (telling B.pages B.slot_count B.faults B.reads) (map T.lines_of boards.old) store.old) page }
+    requires room { lines_of (map T.lines_of boards.old) page ≤ store.old.history.room }
+    ensures flushes { FlushesPage b page (view_of (telling B.pages B.slot_count B.faults B.reads) (map T.lines_of boards.old) store.old) (view_of (telling B.pages B.slot_count B.faults B.reads) (map T.lines_of boards.new) store.new) }
+    ensures frames { store.new.frames ≡ store.old.frames }
+    ensures backing { store.new.backing ≡ store.old.backing }
+    ensures ahead { store.new.ahead ≡ store.old.ahead }
+    ensures lens { boards.new ≡ with_caches T.with_lines boards.old (map T.lines_of boards.new) }
+{
+    for holder in 0..boards.len() as u32 {
+        flush_cache(boards, store, b, holder, page);
+    }
+}
+
+/// Flushes the lines of a leaving page in the cache of board `holder`, ascending; no board before it has any.
+fn flush_cache<T: HasCache, B: Backing>(
+    boards: &mut [T],
+    store: &mut Store<B>,
+    b: u32,
+    holder: u32,
+    page: u32,
+)
+    requires own { b < length boards.old }
+    requires holder { holder < length boards.old }
+    requires stands { IsServable (view_of (telling B.pages B.slot_count B.faults B.reads) (map T.lines_of boards.old) store.old) }
+    requires leaving { IsLeavingPage (view_of (telling B.pages B.slot_count B.faults B.reads) (map T.lines_of boards.old) store.old) page }
+    requires room { lines_of (map T.lines_of boards.old) page ≤ store.old.history.room }
+    requires before { AreFlushed (map T.lines_of boards.old) holder page }
+    ensures flushing { IsFlushing b page (view_of (telling B.pages B.slot_count B.faults B.reads) (map T.lines_of boards.old) store.old) (view_of (telling B.pages B.slot_count B.faults B.reads) (map T.lines_of boards.new) store.new) }
+    ensures done { AreFlushed (map T.lines_of boards.new) (holder + 1) page }
+    ensures frames { store.new.frames ≡ store.old.frames }
+    ensures backing { store.new.backing ≡ store.old.backing }
+    ensures ahead { store.new.ahead ≡ store.old.ahead }
+    ensures lens { boards.new ≡ with_caches T.with_lines boards.old (map T.lines_of boards.new) }
+{
+    let numbers = boards[holder as usize]
+        .cache()
+        .lines_of_page(page_address(page));
+    for number in numbers {
+        let at = block_at(boards[holder as usize].cache(), number);
+        flush_block(boards, store, b, holder, at);
+    }
+}
+
+/// The first byte of the block that the line at a place holds.
+fn block_at(cache: &Cache, number: u16) -> GlobalAddr
+    requires { IsSome (line_at cache.now number) }
+    ensures { option_map (λ line. block_address line.tag) (line_at cache.now number) ≡ Some result }
+{
+    // so that the check knows the lines to be those of a cache
+    let _ = cache.lines();
+    let Some(line) = cache.line(number) else {
+        unreachable!();
+    };
+    match GlobalAddr::of(line.tag << 5) {
+        Some(at) => at,
+        None => unreachable!(),
+    }
+}
+
+/// Drops a block of a leaving page, which the cache of board `holder` has, and appends the flush.
+pub(crate) fn flush_block<T: HasCache, B: Backing>(
+    boards: &mut [T],
+    store: &mut Store<B>,
+    b: u32,
+    holder: u32,
+    at: GlobalAddr,
+)
+    requires own { b < length boards.old }
+    requires holder { holder < length boards.old }
+    requires stands { IsServable (view_of (telling B.pages B.slot_count B.faults B.reads) (map T.lines_of boards.old) store.old) }
+    requires there { HasLine (map T.lines_of boards.old) holder at is_alive }
+    requires leaving { IsLeavingBlock (view_of (telling B.pages B.slot_count B.faults B.reads) (map T.lines_of boards.old) store.old) at }
+    requires room { 1 ≤ store.old.history.room }
+    ensures drops { DropsBlock b holder at (view_of (telling B.pages B.slot_count B.faults B.reads) (map T.lines_of boards.old) store.old) (view_of (telling B.pages B.slot_count B.faults B.reads) (map T.lines_of boards.new) store.new) }
+    ensures frames { store.new.frames ≡ store.old.frames }
+    ensures backing { store.new.backing ≡ store.old.backing }
+    ensures ahead { store.new.ahead ≡ store.old.ahead }
+    ensures lens { boards.new ≡ with_caches T.with_lines boards.old (map T.lines_of boards.new) }
+{
+    let entry = block_flush(boards, &mut store.phys, b, holder, at);
+    store.history.append(entry);
+}

@@ -1,0 +1,39 @@
+//! The pager, which serves the faults of an access.
+//!
+//! A page that is declared is in a frame or on swap. An access to one on swap faults, and the pager brings the page
+//! in: where no frame is free, it first has one page leave, which a clock over the frames chooses, drops the page's
+//! lines from all caches, and writes the page to swap where it was written to. Other faults say that a page is not yet
+//! known to be referenced, or not yet to be dirty, and the pager sets that bit of the page's entry.
+//!
+//! An entry stands in a block of memory like any other word. So each change of one is a write in the cache of the board
+//! whose access faulted, which first has to hold the entry's block alone. This pager is this project's own.
+#![tactic(auto)]
+
+#[cfg(test)]
+mod bench;
+mod bring;
+mod change;
+mod clock;
+mod entry;
+mod fault;
+mod finish;
+mod flush;
+mod history;
+mod laws;
+mod mark;
+mod missing;
+mod page;
+mod put;
+#[cfg(test)]
+mod runs;
+mod serving;
+mod standing;
+mod store;
+#[cfg(test)]
+mod tests;
+
+pub use fault::ServeFault;
+pub use history::History;
+pub use laws::room_is_bounded;
+pub use serving::serve;
+pub use store::Store;

@@ -1,0 +1,21 @@
+//! What the boards share.
+
+use crate::history::History;
+use spur_frames::FrameTable;
+use spur_phys::Phys;
+
+/// What the boards share but for their caches: the memory, which page stands in which frame, the swap, and the history
+/// of all that was done.
+#[derive(Debug, Drop)]
+pub struct Store<B> {
+    /// The memory.
+    pub phys: Phys,
+    /// The data frames, and the page that each of them holds.
+    pub frames: FrameTable,
+    /// Where pages are that stand in no frame: the page of a slot in each.
+    pub backing: B,
+    /// The history.
+    pub history: History,
+    /// How many lines of a leaving page are flushed ahead of need: 0 so far, and `serve` does not look at it.
+    pub ahead: u32,
+}
