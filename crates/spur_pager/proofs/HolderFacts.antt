@@ -1,4 +1,5 @@
--- The tags allow the pager's entries: where the block of the entry is exclusive, and for a page that goes out, where no cache has a line of it.
+-- The tags allow the pager's entries: where the block of the entry is exclusive, and for a page that goes out, where no
+-- cache has a line of it.
 use Rattle.std.proofs.Common.{◌≡◌, ◌≢◌, ◌∙◌, ℕ, suc, ◌+◌, ◌*◌, ◌/◌, ◌^◌, ◌<◌, ◌||◌, Bool, false, if◌then◌else◌, ap, refl, List, [], ◌∷◌, length, Option, Some, None, arith}
 use Rattle.std.specs.List.{list_any}
 use Rattle.std.proofs.lemmas.Bool.{ne_eqb}

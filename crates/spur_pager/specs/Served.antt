@@ -42,9 +42,9 @@ abbrev pub appended : View → View → List Entry
 appended w v = drop (length w.history) v.history
 
 -- The history before is the beginning of the history after, and the room that is left is what was not used: no more was
--- used than the fault needs. The entries are of board b and no accesses or faults, so that no board has more entries of its
--- own. What was done and appended is what these acts come to, and the frame table is the one after
--- them, with the same frames.
+-- used than the fault needs. The entries are of board b and no accesses or faults, so that no board has more entries of
+-- its own. What was done and appended is what these acts come to, and the frame table is the one after them, with the
+-- same frames.
 pub record Does (b : ℕ) (w : View) (kind : FaultKind) (at : ℕ) (answer : Result (Unit {0}) ServeFault) (v : View) : Type 0 where
   pub history : v.history ≡ w.history ++ appended w v
   pub room : v.room + length (appended w v) ≡ w.room
@@ -129,7 +129,7 @@ reads_after reads fault.Missing (Err serve.SwapRead) = one_read_more reads
 reads_after reads fault.Missing (Err serve.SwapWrite) = reads
 reads_after reads kind answer = reads
 
--- the swap object is not called for the kinds of fault that set one bit, nor where the page that goes out was not written to
+-- the swap object is not called for the kinds of fault that set one bit, nor for a Leaving one where the page is not dirty
 abbrev pub StaysFor : {B : Type 0} → View → FaultKind → B → B → Type 0
 StaysFor w fault.Reference old new = new ≡ old
 StaysFor w fault.Dirty old new = new ≡ old
