@@ -13,7 +13,8 @@ use Rattle.spur_bus.proofs.BackFacts.{length-words, place_at, start_of, words_ou
 owns_here : (k : ℕ) (line : Line) → IsAt k line → is_owned line.state ≡ true → OwnsAt (k / 1024) (k / 8 % 128) line
 owns_here k line at owned = record { owned = owned; in_frame = sym at.frame; in_position = sym at.position }
 
-old_word : (caches : List (List (Option Line))) (memory words : List ℕ) (i s k : ℕ) (line : Line) → Agrees caches → line_in caches i s ≡ Some line → is_owned line.state ≡ true
+-- what the memory has of an owned block is no word of the logical memory
+pub old_word : (caches : List (List (Option Line))) (memory words : List ℕ) (i s k : ℕ) (line : Line) → Agrees caches → line_in caches i s ≡ Some line → is_owned line.state ≡ true
     → logical_word caches (with_block memory (start_of line) words) k ≡ logical_word caches memory k
 old_word caches memory words i s k line agree there owned =
     let new : List ℕ = with_block memory (start_of line) words in

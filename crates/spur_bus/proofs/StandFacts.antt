@@ -15,7 +15,7 @@ use Rattle.spur_flat.specs.Needed.{open_on}
 use Rattle.spur_flat.specs.declared.entry.Entry.TheVariants as entry
 
 -- an entry of the bus leaves each flat state, and each allows it
-on_same : (F : Flat) (e : Entry) → IsOfBus e → on F e ≡ F
+pub on_same : (F : Flat) (e : Entry) → IsOfBus e → on F e ≡ F
 on_same F (entry.Fill b l n at) is = refl
 on_same F (entry.Claim b at) is = refl
 on_same F (entry.WriteBack b at) is = refl

@@ -1,6 +1,5 @@
 -- What the tests keep from call to call.
-use Rattle.std.proofs.Common.{◌≡◌, ◌∙◌, ℕ, ◌+◌, ◌*◌, ◌/◌, ◌%◌, ◌<◌, ◌≤◌, inl, inr, ⊎_elim, true, ap, refl, sym, subst, List, length, slice_index, Option, Some, None, arith}
-use Rattle.std.proofs.lemmas.Bool.{cases_lt}
+use Rattle.std.proofs.Common.{◌≡◌, ◌∙◌, ℕ, ◌+◌, ◌*◌, ◌/◌, ◌%◌, ◌<◌, ◌≤◌, true, ap, refl, sym, subst, List, length, slice_index, Option, Some, None, arith}
 use Rattle.spur_cache.specs.declared.line.Line.{Line}
 use Rattle.spur_snoop.specs.declared.Need.{Need}
 use Rattle.spur_snoop.specs.declared.Need.TheVariants as needs
@@ -12,13 +11,13 @@ use Rattle.spur_flat.specs.declared.access.FaultKind.{FaultKind}
 use Rattle.spur_flat.specs.declared.entry.Entry.{Entry}
 use Rattle.spur_flat.specs.declared.flat.Flat.{Flat}
 use Rattle.spur_flat.specs.Validity.{IsValidFlat}
-use Rattle.spur_bus.specs.Agrees.{Agrees, IsAt}
+use Rattle.spur_bus.specs.Agrees.{Agrees}
 use Rattle.spur_bus.specs.Boards.{line_in, line_of_block}
-use Rattle.spur_bus.specs.Logical.{logical_at, logical_word, logical_words}
+use Rattle.spur_bus.specs.Logical.{logical_words}
 use Rattle.spur_bus.specs.Calls.{line_count}
-use Rattle.spur_bus.proofs.BackFacts.{length-words, place_at, start_of, words_out}
+use Rattle.spur_bus.proofs.OldFacts.{old_word}
+use Rattle.spur_bus.proofs.BackFacts.{length-words, start_of}
 use Rattle.spur_bus.proofs.CallFacts.{is_here}
-use Rattle.spur_bus.proofs.OwnerFacts.{OwnsAt, logical_owned}
 use Rattle.spur_bus.proofs.TestFacts.{cleared}
 use Rattle.spur_bus.proofs.WordsFacts.{same-words}
 use Rattle.spur_frames.specs.Frames.{Frames}
@@ -147,27 +146,7 @@ fault_here v b g need kind is served = record {
   served = served;
 }
 
--- what the memory has of an owned block is no word of the logical memory
-owns_here : (k : ℕ) (line : Line) → IsAt k line → is_owned line.state ≡ true → OwnsAt (k / 1024) (k / 8 % 128) line
-owns_here k line at owned = record { owned = owned; in_frame = sym at.frame; in_position = sym at.position }
-
-old_word : (caches : List (List (Option Line))) (memory words : List ℕ) (i s k : ℕ) (line : Line) → Agrees caches → line_in caches i s ≡ Some line → is_owned line.state ≡ true
-    → logical_word caches (with_block memory (start_of line) words) k ≡ logical_word caches memory k
-old_word caches memory words i s k line agree there owned =
-    let new : List ℕ = with_block memory (start_of line) words in
-    let out : (slice_index new k ≡ slice_index memory k) → logical_word caches new k ≡ logical_word caches memory k =
-    λ (same : slice_index new k ≡ slice_index memory k). ap (λ (w : ℕ). logical_at caches k w) same in
-    ⊎_elim
-    (λ (low : k < start_of line). out (words_out 8 memory (start_of line) words k (inl low)))
-    (λ (low : start_of line ≤ k).
-    ⊎_elim
-    (λ (high : k < start_of line + 8).
-    let o = owns_here k line (place_at k line low high) owned in
-    logical_owned caches new k i s line agree there o ∙ sym (logical_owned caches memory k i s line agree there o))
-    (λ (high : start_of line + 8 ≤ k). out (words_out 8 memory (start_of line) words k (inr high)))
-    (cases_lt k (start_of line + 8)))
-    (cases_lt k (start_of line))
-
+-- the words of an owned block are cleared in memory
 cleared_words : (caches : List (List (Option Line))) (memory words : List ℕ) (b g : ℕ) (line : Line) → Agrees caches → b < length caches → line_of_block caches b g ≡ Some line → is_owned line.state ≡ true
     → logical_words caches (with_block memory (block_place line.frame g) words) ≡ logical_words caches memory
 cleared_words caches memory words b g line agree within there owned =

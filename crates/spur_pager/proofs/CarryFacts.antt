@@ -22,13 +22,14 @@ use Rattle.spur_flat.proofs.UntoldFacts.{like-is-allowed-but-value, step-is-like
 use Rattle.spur_bus.specs.Logical.{logical_words}
 use Rattle.spur_bus.specs.Calls.{line_count, tags_of}
 use Rattle.spur_bus.specs.Stand.{IsOfBus}
+use Rattle.spur_bus.proofs.StandFacts.{on_same}
 use Rattle.spur_walk.specs.Bounds.{page_steps_left}
 use Rattle.spur_walk.specs.Laws.{IsServing}
 use Rattle.spur_walk.specs.Tables.{HasTablesOf}
 use Rattle.spur_walk.proofs.BoundFacts.{page-few}
 use Rattle.spur_pager.specs.Acts.{Hold}
 use Rattle.spur_pager.specs.Fetch.{Leads}
-use Rattle.spur_pager.proofs.FetchFacts.{flat_same, on_same}
+use Rattle.spur_pager.proofs.FetchFacts.{flat_same}
 use Rattle.spur_pager.proofs.OpenFacts.{lacks_nothing, none_set, opens, set_again}
 
 -- an entry of the bus is allowed in each flat state

@@ -11,7 +11,7 @@ use Rattle.spur_flat.specs.declared.access.FaultKind.{FaultKind}
 use Rattle.spur_flat.specs.declared.entry.Entry.{Entry}
 use Rattle.spur_flat.specs.declared.entry.Entry.TheVariants as entry
 use Rattle.spur_flat.specs.Blocks.{entry_block, pager_blocks}
-use Rattle.spur_flat.specs.History.{flat_after, on}
+use Rattle.spur_flat.specs.History.{flat_after}
 use Rattle.spur_flat.specs.State.{tags_after}
 use Rattle.spur_flat.specs.TagLines.{tags_on}
 use Rattle.spur_flat.specs.TagRules.{tags_refusal}
@@ -19,7 +19,7 @@ use Rattle.spur_flat.proofs.PieceFacts.{tagged-append, tags_after-append}
 use Rattle.spur_bus.specs.Boards.{line_in}
 use Rattle.spur_bus.specs.Logical.{logical_words}
 use Rattle.spur_bus.specs.Calls.{line_count, tags_of}
-use Rattle.spur_bus.specs.Stand.{IsOfBus}
+use Rattle.spur_bus.proofs.StandFacts.{on_same}
 use Rattle.spur_walk.specs.declared.plan.Plan.{Plan}
 use Rattle.spur_walk.specs.declared.plan.Plan.TheVariants as plan
 use Rattle.spur_walk.specs.declared.step.Walked.{Walked}
@@ -40,24 +40,7 @@ use Rattle.spur_pager.proofs.MadeFacts.{step_made}
 use Rattle.spur_pager.proofs.UserFacts.{user_was}
 use Rattle.spur_pager.proofs.OpenFacts.{all-push, small_length}
 
--- an entry of the bus leaves each flat state, and each allows it
-pub on_same : (F : Flat) (e : Entry) → IsOfBus e → on F e ≡ F
-on_same F (entry.Fill b l n at) is = refl
-on_same F (entry.Claim b at) is = refl
-on_same F (entry.WriteBack b at) is = refl
-on_same F (entry.Refresh b at) is = refl
-on_same F (entry.BlockFlush b holder at) is = refl
-on_same F (entry.Load b at value) is = absurd is
-on_same F (entry.Store b at value) is = absurd is
-on_same F (entry.Tas b at old) is = absurd is
-on_same F (entry.Fault b kind access at) is = absurd is
-on_same F (entry.Leave b at) is = absurd is
-on_same F (entry.PageOut b at) is = absurd is
-on_same F (entry.PageIn b at frame) is = absurd is
-on_same F (entry.SetRef b at) is = absurd is
-on_same F (entry.SetDirty b at) is = absurd is
-on_same F (entry.ClearRef b at) is = absurd is
-
+-- entries of the bus leave each flat state
 pub flat_same : (F : Flat) (b lines : ℕ) (blocks : List ℕ) (owned : Option ℕ) (es : List Entry) → AllByRecursion (IsServing b lines blocks owned) es → flat_after F es ≡ F
 flat_same F b lines blocks owned [] all = refl
 flat_same F b lines blocks owned (e ∷ es) all = ap (λ (G : Flat). flat_after G es) (on_same F e all.0.bus) ∙ flat_same F b lines blocks owned es all.1

@@ -129,7 +129,7 @@ reads_after reads fault.Missing (Err serve.SwapRead) = one_read_more reads
 reads_after reads fault.Missing (Err serve.SwapWrite) = reads
 reads_after reads kind answer = reads
 
--- the swap object is not called for the kinds of fault that set one bit, nor for a Leaving one where the page is not dirty
+-- the swap object is as it was for the kinds of fault that set one bit, and for a Leaving one where the page is not dirty
 abbrev pub StaysFor : {B : Type 0} → View → FaultKind → B → B → Type 0
 StaysFor w fault.Reference old new = new ≡ old
 StaysFor w fault.Dirty old new = new ≡ old
