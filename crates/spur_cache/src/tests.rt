@@ -165,17 +165,11 @@ struct Board {
 }
 
 impl HasCache for Board {
-    ghost lines_of = { λ board. board.cache };
-
-    ghost with_lines = { λ board lines. record board { cache = lines } };
+    ghost lens = { record { lines_of = λ board. board.cache; with_lines = λ board lines. record board { cache = lines } } };
 
     ghost use Rattle.std.specs.Prelude.{refl};
 
-    ghost lines_kept = { λ _. refl };
-
-    ghost lines_set = { λ _ _. refl };
-
-    ghost lines_twice = { λ _ _ _. refl };
+    ghost lawful = { record { kept = λ _. refl; set = λ _ _. refl; twice = λ _ _ _. refl } };
 
     fn cache(&self) -> &Cache {
         let _ = self.cache.lines();
