@@ -7,6 +7,7 @@ pub mod OwnerFacts
 pub mod WordsFacts
 pub mod MoveFacts
 pub mod TagsFacts
+pub mod LensFacts
 pub mod BoardFacts
 pub mod CallFacts
 pub mod BackFacts

@@ -19,10 +19,10 @@ use Rattle.spur_flat.specs.declared.tag.Tag.{Tag}
 use Rattle.spur_flat.specs.declared.entry.Layer.{Layer}
 use Rattle.spur_flat.specs.TagLines.{fresh_tag, kind_of, filled_state}
 use Rattle.spur_bus.specs.declared.place.Place.{Place}
-use Rattle.spur_bus.specs.Boards.{line_of, line_in, line_of_block, turned_boards, turned_lines, turned, first_some, supplied_by, supplier, words_or}
+use Rattle.spur_bus.specs.Boards.{line_of, line_in, line_of_block, turned_lines, turned, first_some, supplied_by, supplier, words_or}
 use Rattle.spur_bus.specs.Logical.{word_or, logical_word, logical_words, logical_block}
 use Rattle.spur_bus.specs.Agrees.{Agrees, IsAt, Serves}
-use Rattle.spur_bus.specs.Calls.{MayRead, read_line, tag_of, tags_of, Gives}
+use Rattle.spur_bus.specs.Calls.{MayRead, read_caches, read_line, tag_of, tags_of, Gives}
 use Rattle.spur_snoop.specs.declared.BusKind.TheVariants as bus
 use Rattle.spur_flat.specs.TagLines as T
 use Rattle.spur_snoop.specs.declared.Need.TheVariants as need
@@ -34,7 +34,6 @@ use Rattle.spur_bus.proofs.OwnerFacts.{Free, Owned, Owner, logical_owned, owner}
 use Rattle.spur_bus.proofs.WordsFacts.{length-logical, logical_index}
 use Rattle.spur_bus.proofs.MoveFacts.{new_there}
 use Rattle.spur_bus.proofs.TagsFacts.{tags-turned}
-use Rattle.spur_bus.proofs.BoardFacts.{lines-turned}
 use Rattle.spur_bus.proofs.CallFacts.{Promised, exclusive_alive, start_block, turned_all, unowned_alive}
 use Rattle.spur_bus.proofs.BackFacts.{at_place, place_at}
 
@@ -348,29 +347,26 @@ is_read need.Write = owned_is_read
 abbrev pub fresh_line : Need → List (List (Option Line)) → List ℕ → ℕ → Place → Line
 fresh_line n caches memory at place = read_line at (filled_state n) place (logical_block caches memory place.frame at)
 
-pub record ReadDone {X : Type 0} (lines_of : X → List (Option Line)) (with_lines : X → List (Option Line) → X) (n : Need) (boards now : List X) (memory : List ℕ) (b at : ℕ) (place : Place) : Type 0 where
-  pub change : now ≡ turned_boards lines_of with_lines b at (kind_of n) (fresh_line n (map lines_of boards) memory at place) boards
-  pub all : ReadAll (map lines_of boards) (map lines_of now) memory b at (fresh_line n (map lines_of boards) memory at place)
+-- what a read leaves
+pub record ReadDone (n : Need) (caches now : List (List (Option Line))) (memory : List ℕ) (b at : ℕ) (place : Place) : Type 0 where
+  pub change : now ≡ read_caches caches memory b n at place
+  pub all : ReadAll caches now memory b at (fresh_line n caches memory at place)
   pub tags : (F : Flat) (l : Layer) (start : ℕ) → start ≡ block_start_of at → Gives F l n (block_start_of at) place
-      → tags_of (map lines_of now) ≡ T.bus_on (tags_of (map lines_of boards)) b (block_of start) (kind_of n) (Some (fresh_tag F l n start))
+      → tags_of now ≡ T.bus_on (tags_of caches) b (block_of start) (kind_of n) (Some (fresh_tag F l n start))
 
-pub read_done : {X : Type 0} (lines_of : X → List (Option Line)) (with_lines : X → List (Option Line) → X) → ((x : X) (lines : List (Option Line)) → lines_of (with_lines x lines) ≡ lines)
-    → (n : Need) (boards now : List X) (memory : List ℕ) (b at : ℕ) (place : Place) (words : List ℕ) (line : Line)
-    → b < length boards → Agrees (map lines_of boards) → Serves (map lines_of boards) memory → MayRead (map lines_of boards) memory b at place.frame
-    → words ≡ words_or (supplier (map lines_of boards) at (kind_of n)) (block_at memory (block_place place.frame at)) → line ≡ read_line at (filled_state n) place words → line.tag < 2 ^ 33
-    → now ≡ turned_boards lines_of with_lines b at (kind_of n) line boards → ReadDone lines_of with_lines n boards now memory b at place
-read_done {X} lines_of with_lines law n boards now memory b at place words line own agree serves may words_is line_is small is =
-    let caches : List (List (Option Line)) = map lines_of boards in
+pub read_done : (n : Need) (caches now : List (List (Option Line))) (memory : List ℕ) (b at : ℕ) (place : Place) (words : List ℕ) (line : Line)
+    → b < length caches → Agrees caches → Serves caches memory → MayRead caches memory b at place.frame
+    → words ≡ words_or (supplier caches at (kind_of n)) (block_at memory (block_place place.frame at)) → line ≡ read_line at (filled_state n) place words → line.tag < 2 ^ 33
+    → now ≡ turned caches b at (kind_of n) line → ReadDone n caches now memory b at place
+read_done n caches now memory b at place words line within agree serves may words_is line_is small is =
     let fresh : Line = fresh_line n caches memory at place in
-    let within : b < length caches = subst (λ (k : ℕ). b < k) (sym (length-map boards lines_of)) own in
     let low : block_of at < 2 ^ 33 = subst (λ (l : Line). l.tag < 2 ^ 33) line_is small in
     let logical : words ≡ logical_block caches memory place.frame at = words_is ∙ read_words_are caches memory b at place.frame (kind_of n) agree (is_read n) may in
     let line_fresh : line ≡ fresh = line_is ∙ ap (read_line at (filled_state n) place) logical in
-    let change : now ≡ turned_boards lines_of with_lines b at (kind_of n) fresh boards = is ∙ ap (λ (l : Line). turned_boards lines_of with_lines b at (kind_of n) l boards) line_fresh in
-    let news : map lines_of now ≡ turned caches b at (kind_of n) fresh = ap (map lines_of) change ∙ lines-turned lines_of with_lines law b at (kind_of n) fresh boards in
+    let news : now ≡ turned caches b at (kind_of n) fresh = is ∙ ap (λ (l : Line). turned caches b at (kind_of n) l) line_fresh in
     record {
-      change = change;
-      all = read_all n caches (map lines_of now) memory b at place agree serves within low may news;
+      change = news;
+      all = read_all n caches now memory b at place agree serves within low may news;
       tags = λ (F : Flat) (l : Layer) (start : ℕ) (start_is : start ≡ block_start_of at) (gives : Gives F l n (block_start_of at) place).
-          read_tags caches (map lines_of now) b at start (kind_of n) fresh (fresh_tag F l n start) refl (gives_tag F l n at start place fresh.words start_is gives) start_is news;
+          read_tags caches now b at start (kind_of n) fresh (fresh_tag F l n start) refl (gives_tag F l n at start place fresh.words start_is gives) start_is news;
     }

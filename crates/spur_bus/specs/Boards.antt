@@ -1,9 +1,10 @@
--- The caches of several boards, and what a transaction of the bus changes, board by board.
+-- The caches of several boards, and what a transaction of the bus changes, cache by cache.
 --
--- A board is any value that has a cache: `lines_of` gives the lines of its cache, and `with_lines` the board with other
--- lines and all else as it is. So an equation over boards says what stays, too.
+-- What a transaction does is said of the caches alone. A board is any value that has a cache, and that nothing of it but
+-- its lines changes is said beside it, once, by its lens.
 use Rattle.std.specs.Prelude.{ℕ, ◌==◌, if◌then◌else◌, map, get_or, slice_get, List, [], ◌∷◌, Option, Some, None}
 use Rattle.spur_cache.specs.declared.line.Line.{Line}
+use Rattle.spur_cache.specs.Lens.{Lens}
 use Rattle.spur_cache.specs.Lines.{found, line_at, with_line, with_state}
 use Rattle.spur_snoop.specs.declared.BlockState.{BlockState}
 use Rattle.spur_snoop.specs.declared.BlockState.TheVariants.{Invalid}
@@ -34,47 +35,39 @@ told_line lines g kind (Some line) = with_state lines g (snooped_of line.state k
 abbrev pub told : List (Option Line) → ℕ → BusKind → List (Option Line)
 told lines g kind = told_line lines g kind (found lines g)
 
--- board k where board `own` makes the transaction: each other one sees it
-abbrev pub told_board : {X : Type 0} → (X → List (Option Line)) → (X → List (Option Line) → X) → ℕ → ℕ → BusKind → ℕ → X → X
-told_board lines_of with_lines own g kind k board =
-    if k == own then board else with_lines board (told (lines_of board) g kind)
+-- the lines of cache k where board `own` makes the transaction: each other one sees it
+abbrev pub told_unless : ℕ → ℕ → BusKind → ℕ → List (Option Line) → List (Option Line)
+told_unless own g kind k lines = if k == own then lines else told lines g kind
 
--- board k after a transaction of board `own` on the block of g: the own board has the line `fresh` on its place, and each
--- other one saw the transaction
-abbrev pub turned_board : {X : Type 0} → (X → List (Option Line)) → (X → List (Option Line) → X) → ℕ → ℕ → BusKind → Line → ℕ → X → X
-turned_board lines_of with_lines own g kind fresh k board =
-    if k == own then with_lines board (with_line (lines_of board) fresh) else with_lines board (told (lines_of board) g kind)
-
--- all boards after it
-abbrev pub turned_boards : {X : Type 0} → (X → List (Option Line)) → (X → List (Option Line) → X) → ℕ → ℕ → BusKind → Line → List X → List X
-turned_boards lines_of with_lines own g kind fresh boards = each_from (turned_board lines_of with_lines own g kind fresh) 0 boards
-
--- all boards after a transaction of board `own` on the block of g, which has this line of the block and puts it in
--- another state
-abbrev pub restated_boards : {X : Type 0} → (X → List (Option Line)) → (X → List (Option Line) → X) → ℕ → ℕ → BusKind → BlockState → Option Line → List X → List X
-restated_boards lines_of with_lines own g kind state None boards = boards
-restated_boards lines_of with_lines own g kind state (Some line) boards = turned_boards lines_of with_lines own g kind (record line { state = state }) boards
-
--- board k after board `holder` dropped the block of g
-abbrev pub dropped_board : {X : Type 0} → (X → List (Option Line)) → (X → List (Option Line) → X) → ℕ → ℕ → ℕ → X → X
-dropped_board lines_of with_lines holder g k board = if k == holder then with_lines board (with_state (lines_of board) g Invalid) else board
-
--- all boards after it
-abbrev pub dropped_boards : {X : Type 0} → (X → List (Option Line)) → (X → List (Option Line) → X) → ℕ → ℕ → List X → List X
-dropped_boards lines_of with_lines holder g boards = each_from (dropped_board lines_of with_lines holder g) 0 boards
-
--- the same of caches alone
+-- the lines of cache k after a transaction of board `own` on the block of g: the own cache has the line `fresh` on its
+-- place, and each other one saw the transaction
 abbrev pub turned_lines : ℕ → ℕ → BusKind → Line → ℕ → List (Option Line) → List (Option Line)
 turned_lines own g kind fresh k lines = if k == own then with_line lines fresh else told lines g kind
 
+-- all caches after it
 abbrev pub turned : List (List (Option Line)) → ℕ → ℕ → BusKind → Line → List (List (Option Line))
 turned caches own g kind fresh = each_from (turned_lines own g kind fresh) 0 caches
 
+-- all caches after a transaction of board `own` on the block of g, which puts its own line of the block, where it has this
+-- one, in another state
+abbrev pub restated_line : List (List (Option Line)) → ℕ → ℕ → BusKind → BlockState → Option Line → List (List (Option Line))
+restated_line caches own g kind state None = caches
+restated_line caches own g kind state (Some line) = turned caches own g kind (record line { state = state })
+
+abbrev pub restated : List (List (Option Line)) → ℕ → ℕ → BusKind → BlockState → List (List (Option Line))
+restated caches own g kind state = restated_line caches own g kind state (line_of_block caches own g)
+
+-- the lines of cache k after board `holder` dropped the block of g
 abbrev pub dropped_lines : ℕ → ℕ → ℕ → List (Option Line) → List (Option Line)
 dropped_lines holder g k lines = if k == holder then with_state lines g Invalid else lines
 
+-- all caches after it
 abbrev pub dropped : List (List (Option Line)) → ℕ → ℕ → List (List (Option Line))
 dropped caches holder g = each_from (dropped_lines holder g) 0 caches
+
+-- board k with its lines changed by its number, and nothing else of it
+abbrev pub changed_board : {X : Type 0} → Lens X → (ℕ → List (Option Line) → List (Option Line)) → ℕ → X → X
+changed_board lens change k board = lens.with_lines board (change k (lens.lines_of board))
 
 -- the first that is there
 abbrev pub first_some : {X : Type 0} → List (Option X) → Option X

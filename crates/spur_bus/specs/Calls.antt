@@ -4,6 +4,8 @@ use Rattle.spur_addr.specs.Address.{block_of}
 use Rattle.spur_cache.specs.declared.line.Line.{Line}
 use Rattle.spur_cache.specs.Lines.{standing}
 use Rattle.spur_snoop.specs.declared.BlockState.{BlockState}
+use Rattle.spur_snoop.specs.declared.BlockState.TheVariants.{UnOwned, OwnedExclusive}
+use Rattle.spur_snoop.specs.declared.BusKind.TheVariants as bus
 use Rattle.spur_snoop.specs.declared.Need.{Need}
 use Rattle.spur_snoop.specs.Protocol.{is_owned}
 use Rattle.spur_phys.specs.Blocks.{block_place, with_block}
@@ -11,10 +13,10 @@ use Rattle.spur_flat.specs.declared.flat.Flat.{Flat}
 use Rattle.spur_flat.specs.declared.tag.Tag.{Tag}
 use Rattle.spur_flat.specs.declared.entry.Layer.{Layer}
 use Rattle.spur_flat.specs.declared.entry.Entry.{Entry}
-use Rattle.spur_flat.specs.TagLines.{fresh_tag, tags_on}
+use Rattle.spur_flat.specs.TagLines.{filled_state, fresh_tag, kind_of, tags_on}
 use Rattle.spur_bus.specs.declared.place.Place.{Place}
-use Rattle.spur_bus.specs.Boards.{line_in, line_of_block}
-use Rattle.spur_bus.specs.Logical.{logical_words}
+use Rattle.spur_bus.specs.Boards.{line_in, line_of_block, restated, turned}
+use Rattle.spur_bus.specs.Logical.{logical_block, logical_words}
 use Rattle.spur_bus.specs.Agrees.{Serves}
 
 -- cache b has the block of g, in a state that passes a test
@@ -35,6 +37,18 @@ pub record MayRead (caches : List (List (Option Line))) (memory : List ℕ) (b g
 -- the line that a read puts in the cache
 abbrev pub read_line : ℕ → BlockState → Place → List ℕ → Line
 read_line g state place words = record { tag = block_of g; state = state; frame = place.frame; prot = place.prot; dirty = place.dirty; words = words }
+
+-- the caches after board b read the block of g from a place, to be read or to be written
+abbrev pub read_caches : List (List (Option Line)) → List ℕ → ℕ → Need → ℕ → Place → List (List (Option Line))
+read_caches caches memory b need g place =
+    turned caches b g (kind_of need) (read_line g (filled_state need) place (logical_block caches memory place.frame g))
+
+-- the caches after board b claimed the block of g, and after it wrote it back
+abbrev pub claimed : List (List (Option Line)) → ℕ → ℕ → List (List (Option Line))
+claimed caches b g = restated caches b g bus.Claim OwnedExclusive
+
+abbrev pub shared_again : List (List (Option Line)) → ℕ → ℕ → List (List (Option Line))
+shared_again caches b g = restated caches b g bus.WriteBack UnOwned
 
 -- the words of a line, where there is one
 abbrev pub words_of : Option Line → List ℕ

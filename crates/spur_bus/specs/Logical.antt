@@ -4,6 +4,7 @@
 -- the block at frame k / 1024 and position k / 8 % 128, and is that block's word k % 8.
 use Rattle.std.specs.Prelude.{ℕ, ◌/◌, ◌%◌, ◌==◌, ◌&&◌, if◌then◌else◌, List, map, slice_index, Option, Some, None}
 use Rattle.spur_cache.specs.declared.line.Line.{Line}
+use Rattle.spur_cache.specs.Lens.{Lens, caches}
 use Rattle.spur_snoop.specs.Protocol.{is_owned}
 use Rattle.spur_phys.specs.Blocks.{block_at, block_place}
 use Rattle.spur_flat.specs.TagLines.{each_from}
@@ -39,6 +40,10 @@ logical_word caches memory k = logical_at caches k (slice_index memory k)
 -- the logical memory, as the list of its words
 abbrev pub logical_words : List (List (Option Line)) → List ℕ → List ℕ
 logical_words caches memory = each_from (logical_at caches) 0 memory
+
+-- the same of boards
+abbrev pub logical_of : {X : Type 0} → Lens X → List X → List ℕ → List ℕ
+logical_of lens boards memory = logical_words (caches lens boards) memory
 
 -- the eight words that the block of g has in a frame of the logical memory
 abbrev pub logical_block : List (List (Option Line)) → List ℕ → ℕ → ℕ → List ℕ

@@ -1,18 +1,19 @@
 //! The transactions.
 
-ghost use Rattle.std.specs.Prelude.{◌≡◌, ◌≢◌, ◌+◌, ◌*◌, ◌<◌, ◌≤◌, ◌^◌, IsSome, Some, length, map};
+ghost use Rattle.std.specs.Prelude.{◌≡◌, ◌≢◌, ◌+◌, ◌*◌, ◌<◌, ◌≤◌, ◌^◌, IsSome, Some, length};
 ghost use Rattle.spur_addr.specs.Address.{block_start_of};
 ghost use Rattle.spur_snoop.specs.declared.BlockState.TheVariants as state_is;
-ghost use Rattle.spur_snoop.specs.declared.BusKind.TheVariants as bus;
 ghost use Rattle.spur_snoop.specs.declared.Need.TheVariants as need;
 ghost use Rattle.spur_snoop.specs.Protocol.{is_owned};
 ghost use Rattle.spur_phys.specs.Blocks.{block_at, block_place};
+ghost use Rattle.spur_cache.specs.Lens.{OnlyLines, caches};
 ghost use Rattle.spur_flat.specs.declared.entry.Entry.TheVariants as entry;
 ghost use Rattle.spur_flat.specs.TagRules.{is_alive, may_claim};
-ghost use Rattle.spur_bus.specs.Boards.{dropped_boards, line_of_block, restated_boards, supplier, turned_boards, words_or};
-ghost use Rattle.spur_bus.specs.Logical.{logical_block, logical_words};
+ghost use Rattle.spur_bus.specs.Boards.{dropped, line_of_block, restated, supplier, turned, words_or};
+ghost use Rattle.spur_bus.specs.Logical.{logical_block, logical_of};
 ghost use Rattle.spur_bus.specs.Agrees.{Agrees, Serves};
-ghost use Rattle.spur_bus.specs.Calls.{HasLine, KeepsAllWords, MayRead, MovesTags, MovesTagsAs, flushed, line_count, read_line, words_of, written_back};
+ghost use Rattle.spur_bus.specs.Calls.{HasLine, KeepsAllWords, MayRead, MovesTags, MovesTagsAs, claimed, flushed};
+ghost use Rattle.spur_bus.specs.Calls.{line_count, read_caches, read_line, shared_again, words_of, written_back};
 
 use crate::place::Place;
 use crate::snoop::{tell_others, words_for};
@@ -37,17 +38,22 @@ pub fn read_shared<T: HasCache>(
     place: Place,
 ) -> Entry
     requires own { b < length boards.old }
-    requires agree { Agrees (map T.lines_of boards.old) }
-    requires serves { Serves (map T.lines_of boards.old) phys.now }
-    requires may { MayRead (map T.lines_of boards.old) phys.now b at place.frame }
+    requires agree { Agrees (caches T.lens boards.old) }
+    requires serves { Serves (caches T.lens boards.old) phys.now }
+    requires may { MayRead (caches T.lens boards.old) phys.now b at place.frame }
     ensures entry { result ≡ entry.Fill b layer need.Read (block_start_of at) }
-    ensures change { boards.new ≡ turned_boards T.lines_of T.with_lines b at bus.ReadShared (read_line at state_is.UnOwned place (logical_block (map T.lines_of boards.old) phys.now place.frame at)) boards.old }
-    ensures agree { Agrees (map T.lines_of boards.new) }
-    ensures serves { Serves (map T.lines_of boards.new) phys.now }
-    ensures logical { logical_words (map T.lines_of boards.new) phys.now ≡ logical_words (map T.lines_of boards.old) phys.now }
-    ensures words { words_of (line_of_block (map T.lines_of boards.new) b at) ≡ logical_block (map T.lines_of boards.old) phys.now place.frame at }
-    ensures lines { line_count (map T.lines_of boards.new) ≡ line_count (map T.lines_of boards.old) }
-    ensures tags { MovesTagsAs (map T.lines_of boards.old) (map T.lines_of boards.new) result layer need.Read (block_start_of at) place }
+    ensures change { caches T.lens boards.new ≡ read_caches (caches T.lens boards.old) phys.now b need.Read at place }
+    ensures lens { OnlyLines T.lens boards.old boards.new }
+    ensures agree { Agrees (caches T.lens boards.new) }
+    ensures serves { Serves (caches T.lens boards.new) phys.now }
+    ensures logical { logical_of T.lens boards.new phys.now ≡ logical_of T.lens boards.old phys.now }
+    ensures words {
+        words_of (line_of_block (caches T.lens boards.new) b at) ≡ logical_block (caches T.lens boards.old) phys.now place.frame at
+    }
+    ensures lines { line_count (caches T.lens boards.new) ≡ line_count (caches T.lens boards.old) }
+    ensures tags {
+        MovesTagsAs (caches T.lens boards.old) (caches T.lens boards.new) result layer need.Read (block_start_of at) place
+    }
 {
     let words = read_words(boards, phys, at, BusKind::ReadShared, place.frame);
     let line = new_line(at, BlockState::UnOwned, place, words);
@@ -75,17 +81,22 @@ pub fn read_owned<T: HasCache>(
     place: Place,
 ) -> Entry
     requires own { b < length boards.old }
-    requires agree { Agrees (map T.lines_of boards.old) }
-    requires serves { Serves (map T.lines_of boards.old) phys.now }
-    requires may { MayRead (map T.lines_of boards.old) phys.now b at place.frame }
+    requires agree { Agrees (caches T.lens boards.old) }
+    requires serves { Serves (caches T.lens boards.old) phys.now }
+    requires may { MayRead (caches T.lens boards.old) phys.now b at place.frame }
     ensures entry { result ≡ entry.Fill b layer need.Write (block_start_of at) }
-    ensures change { boards.new ≡ turned_boards T.lines_of T.with_lines b at bus.ReadOwned (read_line at state_is.OwnedExclusive place (logical_block (map T.lines_of boards.old) phys.now place.frame at)) boards.old }
-    ensures agree { Agrees (map T.lines_of boards.new) }
-    ensures serves { Serves (map T.lines_of boards.new) phys.now }
-    ensures logical { logical_words (map T.lines_of boards.new) phys.now ≡ logical_words (map T.lines_of boards.old) phys.now }
-    ensures words { words_of (line_of_block (map T.lines_of boards.new) b at) ≡ logical_block (map T.lines_of boards.old) phys.now place.frame at }
-    ensures lines { line_count (map T.lines_of boards.new) ≡ line_count (map T.lines_of boards.old) }
-    ensures tags { MovesTagsAs (map T.lines_of boards.old) (map T.lines_of boards.new) result layer need.Write (block_start_of at) place }
+    ensures change { caches T.lens boards.new ≡ read_caches (caches T.lens boards.old) phys.now b need.Write at place }
+    ensures lens { OnlyLines T.lens boards.old boards.new }
+    ensures agree { Agrees (caches T.lens boards.new) }
+    ensures serves { Serves (caches T.lens boards.new) phys.now }
+    ensures logical { logical_of T.lens boards.new phys.now ≡ logical_of T.lens boards.old phys.now }
+    ensures words {
+        words_of (line_of_block (caches T.lens boards.new) b at) ≡ logical_block (caches T.lens boards.old) phys.now place.frame at
+    }
+    ensures lines { line_count (caches T.lens boards.new) ≡ line_count (caches T.lens boards.old) }
+    ensures tags {
+        MovesTagsAs (caches T.lens boards.old) (caches T.lens boards.new) result layer need.Write (block_start_of at) place
+    }
 {
     let words = read_words(boards, phys, at, BusKind::ReadOwned, place.frame);
     let line = new_line(at, BlockState::OwnedExclusive, place, words);
@@ -102,14 +113,15 @@ pub fn read_owned<T: HasCache>(
 /// its line becomes OwnedExclusive, and all other copies go. No word moves.
 pub fn claim<T: HasCache>(boards: &mut [T], b: u32, at: GlobalAddr) -> Entry
     requires own { b < length boards.old }
-    requires agree { Agrees (map T.lines_of boards.old) }
-    requires there { HasLine (map T.lines_of boards.old) b at may_claim }
+    requires agree { Agrees (caches T.lens boards.old) }
+    requires there { HasLine (caches T.lens boards.old) b at may_claim }
     ensures entry { result ≡ entry.Claim b (block_start_of at) }
-    ensures change { boards.new ≡ restated_boards T.lines_of T.with_lines b at bus.Claim state_is.OwnedExclusive (line_of_block (map T.lines_of boards.old) b at) boards.old }
-    ensures agree { Agrees (map T.lines_of boards.new) }
-    ensures words { KeepsAllWords (map T.lines_of boards.old) (map T.lines_of boards.new) }
-    ensures lines { line_count (map T.lines_of boards.new) ≡ line_count (map T.lines_of boards.old) }
-    ensures tags { MovesTags (map T.lines_of boards.old) (map T.lines_of boards.new) result }
+    ensures change { caches T.lens boards.new ≡ claimed (caches T.lens boards.old) b at }
+    ensures lens { OnlyLines T.lens boards.old boards.new }
+    ensures agree { Agrees (caches T.lens boards.new) }
+    ensures words { KeepsAllWords (caches T.lens boards.old) (caches T.lens boards.new) }
+    ensures lines { line_count (caches T.lens boards.new) ≡ line_count (caches T.lens boards.old) }
+    ensures tags { MovesTags (caches T.lens boards.old) (caches T.lens boards.new) result }
 {
     restate(
         boards,
@@ -128,18 +140,19 @@ pub fn claim<T: HasCache>(boards: &mut [T], b: u32, at: GlobalAddr) -> Entry
 /// UnOwned, and other copies stay as they are.
 pub fn write_back<T: HasCache>(boards: &mut [T], phys: &mut Phys, b: u32, at: GlobalAddr) -> Entry
     requires own { b < length boards.old }
-    requires agree { Agrees (map T.lines_of boards.old) }
-    requires serves { Serves (map T.lines_of boards.old) phys.old }
-    requires there { HasLine (map T.lines_of boards.old) b at is_owned }
+    requires agree { Agrees (caches T.lens boards.old) }
+    requires serves { Serves (caches T.lens boards.old) phys.old }
+    requires there { HasLine (caches T.lens boards.old) b at is_owned }
     ensures entry { result ≡ entry.WriteBack b (block_start_of at) }
-    ensures memory { phys.new ≡ written_back phys.old at (line_of_block (map T.lines_of boards.old) b at) }
+    ensures memory { phys.new ≡ written_back phys.old at (line_of_block (caches T.lens boards.old) b at) }
     ensures size { length phys.new ≡ length phys.old }
-    ensures change { boards.new ≡ restated_boards T.lines_of T.with_lines b at bus.WriteBack state_is.UnOwned (line_of_block (map T.lines_of boards.old) b at) boards.old }
-    ensures agree { Agrees (map T.lines_of boards.new) }
-    ensures serves { Serves (map T.lines_of boards.new) phys.new }
-    ensures logical { logical_words (map T.lines_of boards.new) phys.new ≡ logical_words (map T.lines_of boards.old) phys.old }
-    ensures lines { line_count (map T.lines_of boards.new) ≡ line_count (map T.lines_of boards.old) }
-    ensures tags { MovesTags (map T.lines_of boards.old) (map T.lines_of boards.new) result }
+    ensures change { caches T.lens boards.new ≡ shared_again (caches T.lens boards.old) b at }
+    ensures lens { OnlyLines T.lens boards.old boards.new }
+    ensures agree { Agrees (caches T.lens boards.new) }
+    ensures serves { Serves (caches T.lens boards.new) phys.new }
+    ensures logical { logical_of T.lens boards.new phys.new ≡ logical_of T.lens boards.old phys.old }
+    ensures lines { line_count (caches T.lens boards.new) ≡ line_count (caches T.lens boards.old) }
+    ensures tags { MovesTags (caches T.lens boards.old) (caches T.lens boards.new) result }
 {
     save(boards, phys, b as usize, at);
     restate(
@@ -166,18 +179,19 @@ pub fn block_flush<T: HasCache>(
 ) -> Entry
     requires own { b < length boards.old }
     requires holder { holder < length boards.old }
-    requires agree { Agrees (map T.lines_of boards.old) }
-    requires serves { Serves (map T.lines_of boards.old) phys.old }
-    requires there { HasLine (map T.lines_of boards.old) holder at is_alive }
+    requires agree { Agrees (caches T.lens boards.old) }
+    requires serves { Serves (caches T.lens boards.old) phys.old }
+    requires there { HasLine (caches T.lens boards.old) holder at is_alive }
     ensures entry { result ≡ entry.BlockFlush b holder (block_start_of at) }
-    ensures memory { phys.new ≡ flushed phys.old at (line_of_block (map T.lines_of boards.old) holder at) }
+    ensures memory { phys.new ≡ flushed phys.old at (line_of_block (caches T.lens boards.old) holder at) }
     ensures size { length phys.new ≡ length phys.old }
-    ensures change { boards.new ≡ dropped_boards T.lines_of T.with_lines holder at boards.old }
-    ensures agree { Agrees (map T.lines_of boards.new) }
-    ensures serves { Serves (map T.lines_of boards.new) phys.new }
-    ensures logical { logical_words (map T.lines_of boards.new) phys.new ≡ logical_words (map T.lines_of boards.old) phys.old }
-    ensures lines { line_count (map T.lines_of boards.new) ≡ line_count (map T.lines_of boards.old) }
-    ensures tags { MovesTags (map T.lines_of boards.old) (map T.lines_of boards.new) result }
+    ensures change { caches T.lens boards.new ≡ dropped (caches T.lens boards.old) holder at }
+    ensures lens { OnlyLines T.lens boards.old boards.new }
+    ensures agree { Agrees (caches T.lens boards.new) }
+    ensures serves { Serves (caches T.lens boards.new) phys.new }
+    ensures logical { logical_of T.lens boards.new phys.new ≡ logical_of T.lens boards.old phys.old }
+    ensures lines { line_count (caches T.lens boards.new) ≡ line_count (caches T.lens boards.old) }
+    ensures tags { MovesTags (caches T.lens boards.old) (caches T.lens boards.new) result }
 {
     save_owned(boards, phys, holder as usize, at);
     drop_block(boards, holder as usize, at);
@@ -197,7 +211,7 @@ fn read_words<T: HasCache>(
     frame: u32,
 ) -> [u32; 8]
     requires { frame * 1024 + 1024 ≤ length phys.now }
-    ensures { result ≡ words_or (supplier (map T.lines_of boards.now) at kind) (block_at phys.now (block_place frame at)) }
+    ensures { result ≡ words_or (supplier (caches T.lens boards.now) at kind) (block_at phys.now (block_place frame at)) }
 {
     words_for(boards, at, kind, phys.read_block(frame, at))
 }
@@ -222,7 +236,8 @@ fn fill<T: HasCache>(boards: &mut [T], own: usize, at: GlobalAddr, kind: BusKind
     requires own { own < length boards.old }
     requires valid { line.state ≢ state_is.Invalid }
     requires tag { line.tag < 2 ^ 33 }
-    ensures { boards.new ≡ turned_boards T.lines_of T.with_lines own at kind line boards.old }
+    ensures change { caches T.lens boards.new ≡ turned (caches T.lens boards.old) own at kind line }
+    ensures lens { OnlyLines T.lens boards.old boards.new }
 {
     boards[own].fill_line(line);
     tell_others(boards, own, at, kind);
@@ -238,9 +253,10 @@ fn restate<T: HasCache>(
     state: BlockState,
 )
     requires own { own < length boards.old }
-    requires there { IsSome (line_of_block (map T.lines_of boards.old) own at) }
+    requires there { IsSome (line_of_block (caches T.lens boards.old) own at) }
     requires valid { state ≢ state_is.Invalid }
-    ensures { boards.new ≡ restated_boards T.lines_of T.with_lines own at kind state (line_of_block (map T.lines_of boards.old) own at) boards.old }
+    ensures change { caches T.lens boards.new ≡ restated (caches T.lens boards.old) own at kind state }
+    ensures lens { OnlyLines T.lens boards.old boards.new }
 {
     boards[own].set_line_state(at, state);
     tell_others(boards, own, at, kind);
@@ -249,8 +265,8 @@ fn restate<T: HasCache>(
 /// Writes a board's line of a block to memory.
 fn save<T: HasCache>(boards: &[T], phys: &mut Phys, b: usize, at: GlobalAddr)
     requires own { b < length boards.now }
-    requires serves { Serves (map T.lines_of boards.now) phys.old }
-    ensures { phys.new ≡ written_back phys.old at (line_of_block (map T.lines_of boards.now) b at) }
+    requires serves { Serves (caches T.lens boards.now) phys.old }
+    ensures { phys.new ≡ written_back phys.old at (line_of_block (caches T.lens boards.now) b at) }
 {
     if let Some(line) = boards[b].cache().find(at) {
         put_line(phys, line, at);
@@ -260,8 +276,8 @@ fn save<T: HasCache>(boards: &[T], phys: &mut Phys, b: usize, at: GlobalAddr)
 /// Writes a board's line of a block to memory, where it is owned.
 fn save_owned<T: HasCache>(boards: &[T], phys: &mut Phys, b: usize, at: GlobalAddr)
     requires own { b < length boards.now }
-    requires serves { Serves (map T.lines_of boards.now) phys.old }
-    ensures { phys.new ≡ flushed phys.old at (line_of_block (map T.lines_of boards.now) b at) }
+    requires serves { Serves (caches T.lens boards.now) phys.old }
+    ensures { phys.new ≡ flushed phys.old at (line_of_block (caches T.lens boards.now) b at) }
 {
     if let Some(line) = boards[b].cache().find(at) {
         if is_owner(line.state) {
@@ -291,8 +307,9 @@ pub(crate) fn is_owner(state: BlockState) -> bool
 /// Drops a board's line of a block.
 fn drop_block<T: HasCache>(boards: &mut [T], holder: usize, at: GlobalAddr)
     requires own { holder < length boards.old }
-    requires there { IsSome (line_of_block (map T.lines_of boards.old) holder at) }
-    ensures { boards.new ≡ dropped_boards T.lines_of T.with_lines holder at boards.old }
+    requires there { IsSome (line_of_block (caches T.lens boards.old) holder at) }
+    ensures change { caches T.lens boards.new ≡ dropped (caches T.lens boards.old) holder at }
+    ensures lens { OnlyLines T.lens boards.old boards.new }
 {
     boards[holder].set_line_state(at, BlockState::Invalid);
 }

@@ -1,6 +1,7 @@
 //! The transactions on plain caches: what each cache and the memory has after each.
 
-ghost use Rattle.std.specs.Prelude.{◌≡◌, ◌+◌, ◌*◌, ◌<◌, ◌≤◌, IfOk, None, get_or, length, map, replicate, true};
+ghost use Rattle.std.specs.Prelude.{◌≡◌, ◌+◌, ◌*◌, ◌<◌, ◌≤◌, IfOk, None, get_or, length, replicate, true};
+ghost use Rattle.spur_cache.specs.Lens.{caches};
 ghost use Rattle.spur_cache.specs.Lines.{standing};
 ghost use Rattle.spur_flat.specs.TagLines.{state_of};
 ghost use Rattle.spur_flat.specs.TagRules.{is_alive, may_claim};
@@ -46,7 +47,7 @@ const PLACE: Place = Place {
 
 /// The state of a block in a board's cache.
 fn state<T: HasCache>(boards: &[T], b: u32, at: GlobalAddr) -> BlockState
-    ensures { result ≡ state_of (line_tag (line_of_block (map T.lines_of boards.now) b at)) }
+    ensures { result ≡ state_of (line_tag (line_of_block (caches T.lens boards.now) b at)) }
 {
     match boards.get(b as usize) {
         Some(board) => match board.cache().find(at) {
@@ -96,7 +97,7 @@ fn cache_fits(cache: &Cache, at: GlobalAddr, frame: u32) -> bool
 
 /// Whether each line of all caches is so.
 fn all_fit<T: HasCache>(boards: &[T], at: GlobalAddr, frame: u32) -> bool
-    ensures { result ≡ true → AllFit (map T.lines_of boards.now) at frame }
+    ensures { result ≡ true → AllFit (caches T.lens boards.now) at frame }
 {
     for board in boards {
         if !cache_fits(board.cache(), at, frame) {
@@ -119,7 +120,7 @@ fn may_replace(cache: &Cache, at: GlobalAddr) -> bool
 /// Whether a board may read a block from a frame.
 fn may_read<T: HasCache>(boards: &[T], phys: &Phys, b: u32, at: GlobalAddr, frame: u32) -> bool
     requires own { b < length boards.now }
-    ensures { result ≡ true → MayRead (map T.lines_of boards.now) phys.now b at frame }
+    ensures { result ≡ true → MayRead (caches T.lens boards.now) phys.now b at frame }
 {
     if frame >= phys.frames() || !may_replace(boards[b as usize].cache(), at) {
         return false;
@@ -130,10 +131,10 @@ fn may_read<T: HasCache>(boards: &[T], phys: &Phys, b: u32, at: GlobalAddr, fram
 /// `read_shared`, where the board may read the block.
 fn try_share<T: HasCache>(boards: &mut [T], phys: &Phys, b: u32, at: GlobalAddr) -> Option<Entry>
     requires own { b < length boards.old }
-    requires agree { Agrees (map T.lines_of boards.old) }
-    requires serves { Serves (map T.lines_of boards.old) phys.now }
-    ensures agree { Agrees (map T.lines_of boards.new) }
-    ensures serves { Serves (map T.lines_of boards.new) phys.now }
+    requires agree { Agrees (caches T.lens boards.old) }
+    requires serves { Serves (caches T.lens boards.old) phys.now }
+    ensures agree { Agrees (caches T.lens boards.new) }
+    ensures serves { Serves (caches T.lens boards.new) phys.now }
 {
     if !may_read(boards, phys, b, at, PLACE.frame) {
         return None;
@@ -144,10 +145,10 @@ fn try_share<T: HasCache>(boards: &mut [T], phys: &Phys, b: u32, at: GlobalAddr)
 /// `read_owned`, where the board may read the block.
 fn try_take<T: HasCache>(boards: &mut [T], phys: &Phys, b: u32, at: GlobalAddr) -> Option<Entry>
     requires own { b < length boards.old }
-    requires agree { Agrees (map T.lines_of boards.old) }
-    requires serves { Serves (map T.lines_of boards.old) phys.now }
-    ensures agree { Agrees (map T.lines_of boards.new) }
-    ensures serves { Serves (map T.lines_of boards.new) phys.now }
+    requires agree { Agrees (caches T.lens boards.old) }
+    requires serves { Serves (caches T.lens boards.old) phys.now }
+    ensures agree { Agrees (caches T.lens boards.new) }
+    ensures serves { Serves (caches T.lens boards.new) phys.now }
 {
     if !may_read(boards, phys, b, at, PLACE.frame) {
         return None;
@@ -158,10 +159,10 @@ fn try_take<T: HasCache>(boards: &mut [T], phys: &Phys, b: u32, at: GlobalAddr) 
 /// `claim`, where the board has the block and not exclusive.
 fn try_claim<T: HasCache>(boards: &mut [T], phys: &Phys, b: u32, at: GlobalAddr) -> Option<Entry>
     requires own { b < length boards.old }
-    requires agree { Agrees (map T.lines_of boards.old) }
-    requires serves { Serves (map T.lines_of boards.old) phys.now }
-    ensures agree { Agrees (map T.lines_of boards.new) }
-    ensures serves { Serves (map T.lines_of boards.new) phys.now }
+    requires agree { Agrees (caches T.lens boards.old) }
+    requires serves { Serves (caches T.lens boards.old) phys.now }
+    ensures agree { Agrees (caches T.lens boards.new) }
+    ensures serves { Serves (caches T.lens boards.new) phys.now }
 {
     if !can_claim(state(boards, b, at)) {
         return None;
@@ -177,10 +178,10 @@ fn try_write_back<T: HasCache>(
     at: GlobalAddr,
 ) -> Option<Entry>
     requires own { b < length boards.old }
-    requires agree { Agrees (map T.lines_of boards.old) }
-    requires serves { Serves (map T.lines_of boards.old) phys.old }
-    ensures agree { Agrees (map T.lines_of boards.new) }
-    ensures serves { Serves (map T.lines_of boards.new) phys.new }
+    requires agree { Agrees (caches T.lens boards.old) }
+    requires serves { Serves (caches T.lens boards.old) phys.old }
+    ensures agree { Agrees (caches T.lens boards.new) }
+    ensures serves { Serves (caches T.lens boards.new) phys.new }
 {
     if !is_owner(state(boards, b, at)) {
         return None;
@@ -196,10 +197,10 @@ fn try_flush<T: HasCache>(
     at: GlobalAddr,
 ) -> Option<Entry>
     requires own { holder < length boards.old }
-    requires agree { Agrees (map T.lines_of boards.old) }
-    requires serves { Serves (map T.lines_of boards.old) phys.old }
-    ensures agree { Agrees (map T.lines_of boards.new) }
-    ensures serves { Serves (map T.lines_of boards.new) phys.new }
+    requires agree { Agrees (caches T.lens boards.old) }
+    requires serves { Serves (caches T.lens boards.old) phys.old }
+    ensures agree { Agrees (caches T.lens boards.new) }
+    ensures serves { Serves (caches T.lens boards.new) phys.new }
 {
     if !is_valid(state(boards, holder, at)) {
         return None;
@@ -224,9 +225,9 @@ fn is_valid(state: BlockState) -> bool
 /// Makes the memory's words of a block that a board owns zero.
 fn clear<T: HasCache>(boards: &[T], phys: &mut Phys, b: u32, at: GlobalAddr)
     requires own { b < length boards.now }
-    requires agree { Agrees (map T.lines_of boards.now) }
-    requires serves { Serves (map T.lines_of boards.now) phys.old }
-    ensures { Serves (map T.lines_of boards.now) phys.new }
+    requires agree { Agrees (caches T.lens boards.now) }
+    requires serves { Serves (caches T.lens boards.now) phys.old }
+    ensures { Serves (caches T.lens boards.now) phys.new }
 {
     if let Some(line) = boards[b as usize].cache().find(at) {
         if is_owner(line.state) {
@@ -243,10 +244,10 @@ fn run<T: HasCache>(
     b: u32,
     at: GlobalAddr,
 ) -> Option<Entry>
-    requires agree { Agrees (map T.lines_of boards.old) }
-    requires serves { Serves (map T.lines_of boards.old) phys.old }
-    ensures agree { Agrees (map T.lines_of boards.new) }
-    ensures serves { Serves (map T.lines_of boards.new) phys.new }
+    requires agree { Agrees (caches T.lens boards.old) }
+    requires serves { Serves (caches T.lens boards.old) phys.old }
+    ensures agree { Agrees (caches T.lens boards.new) }
+    ensures serves { Serves (caches T.lens boards.new) phys.new }
 {
     if b as usize >= boards.len() {
         return None;

@@ -25,7 +25,7 @@ use Rattle.spur_flat.specs.Pager.{word_of}
 use Rattle.spur_flat.specs.TagLines.{filled_state, kind_of}
 use Rattle.spur_flat.specs.TagRules.{is_exclusive}
 use Rattle.spur_bus.specs.declared.place.Place.{Place}
-use Rattle.spur_bus.specs.Boards.{line_of_block}
+use Rattle.spur_bus.specs.Boards.{line_of_block, restated_line}
 use Rattle.spur_bus.specs.Logical.{logical_block}
 use Rattle.spur_bus.specs.Calls.{read_line}
 use Rattle.spur_bus.proofs.LineFacts.{set_away, set_there}
@@ -37,7 +37,7 @@ use Rattle.spur_walk.specs.declared.step.Walked.TheVariants as walked
 use Rattle.spur_walk.specs.Look.{look_of}
 use Rattle.spur_walk.specs.Tables.{block_address, logical_flat, root_at}
 use Rattle.spur_walk.specs.Plan.{access_plan, climb, fault_of, fault_or, fill_over, filling, page_by, page_climb, page_plan, plan_by, root_place, table_place, user_place, where_found}
-use Rattle.spur_walk.specs.Steps.{answer_of, restated, stepped}
+use Rattle.spur_walk.specs.Steps.{answer_of, stepped}
 use Rattle.spur_walk.specs.Bounds.{backs, climb_fills, climb_steps, fill_steps, fills_by, fills_left, page_steps_by, page_steps_left, steps_by, steps_left}
 use Rattle.spur_walk.specs.Laws.{PageStepsFall, StepsFall, is_fetch}
 use Rattle.spur_walk.proofs.BoundFacts.{away_few, away_fills, fill_few, found_few, found_fills}
@@ -139,7 +139,7 @@ get_set [] b lines within = absurd (omega arith)
 get_set (c ∷ cs) zero lines within = refl
 get_set (c ∷ cs) (suc b) lines within = get_set cs b lines (omega arith)
 
-own_restated : (caches : List (List (Option Line))) (b g : ℕ) (kind : BusKind) (state : BlockState) (o : Option Line) → b < length caches → get_or (restated caches b g kind state o) b [] ≡ restate_own (get_or caches b []) state o
+own_restated : (caches : List (List (Option Line))) (b g : ℕ) (kind : BusKind) (state : BlockState) (o : Option Line) → b < length caches → get_or (restated_line caches b g kind state o) b [] ≡ restate_own (get_or caches b []) state o
 own_restated caches b g kind state None within = refl
 own_restated caches b g kind state (Some line) within = own-turned caches b g kind (record line { state = state }) within
 

@@ -31,7 +31,7 @@ use Rattle.spur_flat.specs.Needed.{is_block, is_modest}
 use Rattle.spur_flat.specs.Pager.{word_of}
 use Rattle.spur_flat.specs.TagRules.{access_of, is_exclusive}
 use Rattle.spur_bus.specs.declared.place.Place.{Place}
-use Rattle.spur_bus.specs.Boards.{line_of_block, told, turned, turned_lines}
+use Rattle.spur_bus.specs.Boards.{line_of_block, restated_line, told, turned, turned_lines}
 use Rattle.spur_bus.specs.Logical.{logical_block}
 use Rattle.spur_bus.specs.Agrees.{Agrees}
 use Rattle.spur_bus.specs.Calls.{line_count, read_line}
@@ -47,7 +47,7 @@ use Rattle.spur_walk.specs.Look.{look_of}
 use Rattle.spur_walk.specs.Tables.{block_address, logical_flat, root_at}
 use Rattle.spur_walk.specs.Present.{MayWalk}
 use Rattle.spur_walk.specs.Plan.{access_plan, climb, fault_of, fault_or, fill_over, filling, page_by, page_climb, page_plan, plan_by, root_place, table_place, user_place, where_found}
-use Rattle.spur_walk.specs.Steps.{IsFilled, OfPage, MayDo, answer_of, restated, stepped}
+use Rattle.spur_walk.specs.Steps.{IsFilled, OfPage, MayDo, answer_of, stepped}
 use Rattle.spur_walk.specs.Laws.{AccessIsServed, IsServing, OwnBlockHits, PageIsServed, owned_for}
 use Rattle.spur_walk.proofs.AnswerFacts.{claim_by}
 use Rattle.spur_walk.proofs.FillFacts.{lets}
@@ -267,7 +267,7 @@ claimed_hits line Write (Shares granted dirty exclusive) = hits (record line { s
 claimed_hits line Read answer = elim answer [ ]
 
 pub claim_hits : (caches : List (List (Option Line))) (memory : List ℕ) (b at : ℕ) (need : Need) (o : Option Line) → Agrees caches → b < length caches → line_of_block caches b at ≡ o → look_of o need ≡ NeedsClaim
-    → look_of (line_of_block (restated caches b at bus.Claim OwnedExclusive o) b at) need ≡ Hit
+    → look_of (line_of_block (restated_line caches b at bus.Claim OwnedExclusive o) b at) need ≡ Hit
 claim_hits caches memory b at need None agree within is seen = cc
 claim_hits caches memory b at need (Some line) agree within is seen =
     let fresh : Line = record line { state = OwnedExclusive } in

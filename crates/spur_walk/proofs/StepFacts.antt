@@ -7,6 +7,7 @@ use Rattle.spur_addr.specs.Address.{block_of, block_start_of, entry_address_of, 
 use Rattle.spur_addr.specs.PageEntry.{is_dirty, is_leaving}
 use Rattle.spur_addr.specs.declared.page_entry.Protection.{Protection}
 use Rattle.spur_cache.specs.declared.line.Line.{Line}
+use Rattle.spur_cache.specs.Lens.{IsLens, Lens, caches}
 use Rattle.spur_cache.specs.Lines.{changed_found, dirtied, slot_of, with_dirty}
 use Rattle.spur_cache.proofs.CacheFacts.{found_held}
 use Rattle.spur_snoop.specs.declared.BlockState.{BlockState}
@@ -26,15 +27,16 @@ use Rattle.spur_flat.specs.TagLines.{each_from, filled_state, kind_of, tags_on}
 use Rattle.spur_flat.specs.TagLines as T
 use Rattle.spur_flat.specs.TagRules.{dirty_copy, held, is_alive, state_number}
 use Rattle.spur_bus.specs.declared.place.Place.{Place}
-use Rattle.spur_bus.specs.Boards.{line_in, line_of_block, turned, turned_boards, turned_lines}
+use Rattle.spur_bus.specs.Boards.{line_in, line_of_block, restated_line, turned, turned_lines}
 use Rattle.spur_bus.specs.Logical.{logical_block, logical_words}
 use Rattle.spur_bus.specs.Agrees.{Agrees, Serves}
-use Rattle.spur_bus.specs.Calls.{HasLine, KeepsAllWords, MovesTags, MovesTagsAs, cache_tags, line_count, read_line, tag_of, tags_of}
+use Rattle.spur_bus.specs.Calls.{HasLine, KeepsAllWords, claimed, shared_again, written_back, MovesTags, MovesTagsAs, cache_tags, line_count, read_line, tag_of, tags_of}
 use Rattle.spur_bus.proofs.Turn.{CameFrom}
 use Rattle.spur_bus.proofs.EachFacts.{length-each, set_each}
 use Rattle.spur_bus.proofs.FromFacts.{From, Fresh, Mine, Other, from}
 use Rattle.spur_bus.proofs.AgreesFacts.{other_owned}
-use Rattle.spur_bus.proofs.BoardFacts.{lines-turned}
+use Rattle.spur_bus.proofs.BoardFacts.{lines_here, restated_is}
+use Rattle.spur_bus.proofs.LensFacts.{caches-set}
 use Rattle.spur_bus.proofs.CallFacts.{is_here, start_block, tags_in}
 use Rattle.spur_bus.proofs.TagsFacts.{with-tags}
 use Rattle.spur_bus.proofs.AllowFacts.{claim-tagged, back-tagged, read-tagged}
@@ -42,7 +44,7 @@ use Rattle.spur_walk.specs.declared.plan.Plan.{Plan}
 use Rattle.spur_walk.specs.declared.plan.Plan.TheVariants as plan
 use Rattle.spur_walk.specs.Tables.{HasTables, HasTablesOf, StandsIn, block_address, logical_flat}
 use Rattle.spur_walk.specs.Present.{AreMapped, ArePresent, MayWalk}
-use Rattle.spur_walk.specs.Steps.{MayFill, MayRefresh, MayTake, Steps, answer_of, dirtied_board, dirtied_in, restated, stepped, tags_walked, walked_refusal}
+use Rattle.spur_walk.specs.Steps.{MayFill, MayRefresh, MayTake, Steps, answer_of, dirtied_in, stepped, stepped_memory, tags_walked, walked_refusal}
 use Rattle.spur_walk.proofs.FrameFacts.{may_read}
 use Rattle.spur_walk.proofs.TableFacts.{word_start}
 use Rattle.spur_walk.proofs.FillFacts.{Suits, above_state, alive, fills_gives, fills_layer, fills_stands, fills_suits, fills_tables, same_start}
@@ -154,11 +156,13 @@ walks before after old new may did =
     }
 
 pub steps : (before after : List (List (Option Line))) (old new : List ℕ) (b g : ℕ) (p : Plan) → MayWalk before old → Did before old after new → after ≡ stepped before old b g p
+    → new ≡ stepped_memory before old b p
     → ((F : Flat) → HasTablesOf F (logical_words before old) → walked_refusal F (tags_of before) (answer_of b g p) ≡ None)
     → ((F : Flat) → HasTablesOf F (logical_words before old) → tags_of after ≡ tags_walked F (tags_of before) (answer_of b g p))
     → Steps before old b g p after new
-steps before after old new b g p may did is tagged tags = record {
+steps before after old new b g p may did is memory_is tagged tags = record {
   caches = is;
+  memory = memory_is;
   walk = walks before after old new may did;
   logical = did.logical;
   present = λ (present : ArePresent (logical_flat before old) before). subst (λ (F : Flat). ArePresent F after) (sym (same_flat before after old new did.logical)) (did.present present);
@@ -184,19 +188,15 @@ still caches memory may = record {
 
 pub ready_steps : (caches : List (List (Option Line))) (memory : List ℕ) (b g : ℕ) → MayWalk caches memory → Steps caches memory b g plan.Ready caches memory
 ready_steps caches memory b g may =
-    steps caches caches memory memory b g plan.Ready may (still caches memory may) refl
+    steps caches caches memory memory b g plan.Ready may (still caches memory may) refl refl
     (λ (F : Flat) (has : HasTablesOf F (logical_words caches memory)). refl) (λ (F : Flat) (has : HasTablesOf F (logical_words caches memory)). refl)
 
 pub fault_steps : (caches : List (List (Option Line))) (memory : List ℕ) (b g : ℕ) (kind : FaultKind) → MayWalk caches memory → Steps caches memory b g (plan.Fault kind) caches memory
 fault_steps caches memory b g kind may =
-    steps caches caches memory memory b g (plan.Fault kind) may (still caches memory may) refl
+    steps caches caches memory memory b g (plan.Fault kind) may (still caches memory may) refl refl
     (λ (F : Flat) (has : HasTablesOf F (logical_words caches memory)). refl) (λ (F : Flat) (has : HasTablesOf F (logical_words caches memory)). refl)
 
 -- a line put in another state
-pub restated_here : (caches : List (List (Option Line))) (b g : ℕ) (kind : BusKind) (state : BlockState) (line : Line) → line_of_block caches b g ≡ Some line
-    → turned caches b g kind (record line { state = state }) ≡ restated caches b g kind state (line_of_block caches b g)
-restated_here caches b g kind state line there = ap (restated caches b g kind state) (sym there)
-
 restated_did : (caches news : List (List (Option Line))) (old new : List ℕ) (b g : ℕ) (kind : BusKind) (state : BlockState) (line : Line) → MayWalk caches old → b < length caches → line_of_block caches b g ≡ Some line
     → (root_start ≤ block_address line.tag → is_owned state ≡ false) → news ≡ turned caches b g kind (record line { state = state })
     → Agrees news → Serves news new → logical_words news new ≡ logical_words caches old → line_count news ≡ line_count caches → length new ≡ length old → Did caches old news new
@@ -225,26 +225,28 @@ below_root g line state low tag from =
 
 -- a claim
 pub claim_steps : (caches news : List (List (Option Line))) (memory : List ℕ) (b g : ℕ) (now : Entry) → MayWalk caches memory → b < length caches → (may : MayTake caches b g)
-    → news ≡ turned caches b g bus.Claim (record may.shared.line { state = OwnedExclusive }) → Agrees news → KeepsAllWords caches news → line_count news ≡ line_count caches → MovesTags caches news now → now ≡ entry.Claim b (block_start_of g)
+    → news ≡ claimed caches b g → Agrees news → KeepsAllWords caches news → line_count news ≡ line_count caches → MovesTags caches news now → now ≡ entry.Claim b (block_start_of g)
     → Steps caches memory b g plan.Claim news memory
 claim_steps caches news memory b g now walk within may is agree words lines tags now_is =
     let line : Line = may.shared.line in
     let here = is_here caches b g line within may.shared.there in
     let kept = words memory walk.serves in
+    let turns = restated_is caches news b g bus.Claim OwnedExclusive line is may.shared.there in
     steps caches news memory memory b g plan.Claim walk
-    (restated_did caches news memory memory b g bus.Claim OwnedExclusive line walk within may.shared.there (below_root g line OwnedExclusive may.low here.tag) is agree kept.serves kept.logical lines refl)
-    (is ∙ restated_here caches b g bus.Claim OwnedExclusive line may.shared.there)
+    (restated_did caches news memory memory b g bus.Claim OwnedExclusive line walk within may.shared.there (below_root g line OwnedExclusive may.low here.tag) turns agree kept.serves kept.logical lines refl)
+    is refl
     (λ (F : Flat) (has : HasTablesOf F (logical_words caches memory)). claim-tagged F caches b g within may.shared)
     (λ (F : Flat) (has : HasTablesOf F (logical_words caches memory)). tags F ∙ ap (tags_on F (tags_of caches)) now_is)
 
 -- a write-back
 pub back_steps : (caches news : List (List (Option Line))) (old new : List ℕ) (b g at : ℕ) (now : Entry) → MayWalk caches old → b < length caches → (may : HasLine caches b at is_owned)
-    → news ≡ turned caches b at bus.WriteBack (record may.line { state = UnOwned }) → Agrees news → Serves news new → logical_words news new ≡ logical_words caches old → line_count news ≡ line_count caches → length new ≡ length old
+    → news ≡ shared_again caches b at → new ≡ written_back old at (line_of_block caches b at) → Agrees news → Serves news new → logical_words news new ≡ logical_words caches old → line_count news ≡ line_count caches → length new ≡ length old
     → MovesTags caches news now → now ≡ entry.WriteBack b (block_start_of at) → Steps caches old b g (plan.WriteBack at) news new
-back_steps caches news old new b g at now walk within may is agree serves logical lines size tags now_is =
+back_steps caches news old new b g at now walk within may is memory_is agree serves logical lines size tags now_is =
+    let turns = restated_is caches news b at bus.WriteBack UnOwned may.line is may.there in
     steps caches news old new b g (plan.WriteBack at) walk
-    (restated_did caches news old new b at bus.WriteBack UnOwned may.line walk within may.there (λ (from : root_start ≤ block_address may.line.tag). refl) is agree serves logical lines size)
-    (is ∙ restated_here caches b at bus.WriteBack UnOwned may.line may.there)
+    (restated_did caches news old new b at bus.WriteBack UnOwned may.line walk within may.there (λ (from : root_start ≤ block_address may.line.tag). refl) turns agree serves logical lines size)
+    is memory_is
     (λ (F : Flat) (has : HasTablesOf F (logical_words caches old)). back-tagged F caches b at within may)
     (λ (F : Flat) (has : HasTablesOf F (logical_words caches old)). tags F ∙ ap (tags_on F (tags_of caches)) now_is)
 
@@ -269,7 +271,7 @@ fill_steps caches news memory b g at l n place now walk within may is agree serv
       lines = lines;
       size = refl;
     })
-    is
+    is refl
     (λ (F : Flat) (has : HasTablesOf F (logical_words caches memory)).
     read-tagged F caches memory b at place.frame l n within (may_read caches memory b at place.frame walk may.lacks may.victim stands)
     (fills_layer L caches b l n at place may.fills) (fills_tables F L caches memory b l n at place walk within has may.fills))
@@ -359,51 +361,13 @@ pub refresh_steps : (caches news : List (List (Option Line))) (memory : List ℕ
 refresh_steps caches news memory b g walk within may is =
     steps caches news memory memory b g plan.Refresh walk
     (subst (λ (cs : List (List (Option Line))). Did caches memory cs memory) (sym is) (refresh_did caches memory b g walk within may))
-    is
+    is refl
     (λ (F : Flat) (has : HasTablesOf F (logical_words caches memory)). refresh_tagged F caches memory b g walk within has may)
     (λ (F : Flat) (has : HasTablesOf F (logical_words caches memory)). ap tags_of is ∙ dirtied_tags caches b g may.line within may.there)
 
--- boards, where one has its dirty copy set
-pub dirty_all : {X : Type 0} (lines_of : X → List (Option Line)) (with_lines : X → List (Option Line) → X) (b g : ℕ) (boards : List X) (d y : X) → b < length boards
-    → y ≡ with_lines (get_or boards b d) (with_dirty (lines_of (get_or boards b d)) g) → set boards b y ≡ each_from (dirtied_board lines_of with_lines b g) 0 boards
-dirty_all {X} lines_of with_lines b g boards d y within is =
-    let one : ℕ → X → X = dirtied_board lines_of with_lines b g in
-    let mine : (x : X) → one b x ≡ with_lines x (with_dirty (lines_of x) g) = λ (x : X). ap (λ (t : Bool). if t then with_lines x (with_dirty (lines_of x) g) else x) (eq-eqb b b refl) in
-    set_each one 0 boards b d y within (is ∙ sym (mine (get_or boards b d)) ∙ ap (λ (n : ℕ). one n (get_or boards b d)) (sym (zero-add b)))
-    (λ (j : ℕ) (x : X) (apart : j ≢ 0 + b).
-    ap (λ (t : Bool). if t then with_lines x (with_dirty (lines_of x) g) else x) (ne_eqb j b (λ (e : j ≡ b). apart (e ∙ sym (zero-add b)))))
-
--- and their caches
-abbrev dirtied_lines : (b g k : ℕ) → List (Option Line) → List (Option Line)
-dirtied_lines b g k lines = if k == b then with_dirty lines g else lines
-
-dirtied_if : {X : Type 0} (lines_of : X → List (Option Line)) (with_lines : X → List (Option Line) → X) → ((x : X) (lines : List (Option Line)) → lines_of (with_lines x lines) ≡ lines)
-    → (own : Bool) (x : X) (mine : List (Option Line)) → lines_of (if own then with_lines x mine else x) ≡ (if own then mine else lines_of x)
-dirtied_if lines_of with_lines law true x mine = law x mine
-dirtied_if lines_of with_lines law false x mine = refl
-
-lines_from : {X : Type 0} (lines_of : X → List (Option Line)) (with_lines : X → List (Option Line) → X) → ((x : X) (lines : List (Option Line)) → lines_of (with_lines x lines) ≡ lines)
-    → (b g k : ℕ) (xs : List X) → map lines_of (each_from (dirtied_board lines_of with_lines b g) k xs) ≡ each_from (dirtied_lines b g) k (map lines_of xs)
-lines_from lines_of with_lines law b g k [] = refl
-lines_from {X} lines_of with_lines law b g k (x ∷ xs) =
-    ap (λ (ls : List (Option Line)). ls ∷ map lines_of (each_from (dirtied_board lines_of with_lines b g) (k + 1) xs)) (dirtied_if lines_of with_lines law (k == b) x (with_dirty (lines_of x) g))
-    ∙ ap (λ (rest : List (List (Option Line))). dirtied_lines b g k (lines_of x) ∷ rest) (lines_from lines_of with_lines law b g (k + 1) xs)
-
-set_is : (b g : ℕ) (caches : List (List (Option Line))) → b < length caches → each_from (dirtied_lines b g) 0 caches ≡ dirtied_in caches b g
-set_is b g caches within =
-    let one : ℕ → List (Option Line) → List (Option Line) = dirtied_lines b g in
-    let mine : (x : List (Option Line)) → one b x ≡ with_dirty x g = λ (x : List (Option Line)). ap (λ (t : Bool). if t then with_dirty x g else x) (eq-eqb b b refl) in
-    sym (set_each one 0 caches b [] (with_dirty (get_or caches b []) g) within (sym (mine (get_or caches b [])) ∙ ap (λ (n : ℕ). one n (get_or caches b [])) (sym (zero-add b)))
-    (λ (j : ℕ) (x : List (Option Line)) (apart : j ≢ 0 + b).
-    ap (λ (t : Bool). if t then with_dirty x g else x) (ne_eqb j b (λ (e : j ≡ b). apart (e ∙ sym (zero-add b))))))
-
-pub lines_dirtied : {X : Type 0} (lines_of : X → List (Option Line)) (with_lines : X → List (Option Line) → X) → ((x : X) (lines : List (Option Line)) → lines_of (with_lines x lines) ≡ lines)
-    → (b g : ℕ) (boards now : List X) → b < length boards → now ≡ each_from (dirtied_board lines_of with_lines b g) 0 boards → map lines_of now ≡ dirtied_in (map lines_of boards) b g
-lines_dirtied lines_of with_lines law b g boards now within is =
-    ap (map lines_of) is ∙ lines_from lines_of with_lines law b g 0 boards
-    ∙ set_is b g (map lines_of boards) (subst (λ (n : ℕ). b < n) (sym (L.length-map boards lines_of)) within)
-
--- caches of boards of which one filled a block
-pub lines_filled : {X : Type 0} (lines_of : X → List (Option Line)) (with_lines : X → List (Option Line) → X) → ((x : X) (lines : List (Option Line)) → lines_of (with_lines x lines) ≡ lines)
-    → (b g : ℕ) (kind : BusKind) (fresh : Line) (boards now : List X) → now ≡ turned_boards lines_of with_lines b g kind fresh boards → map lines_of now ≡ turned (map lines_of boards) b g kind fresh
-lines_filled lines_of with_lines law b g kind fresh boards now is = ap (map lines_of) is ∙ lines-turned lines_of with_lines law b g kind fresh boards
+-- the caches of boards of which one has its dirty copy set
+pub dirtied_caches : {X : Type 0} (lens : Lens X) → IsLens lens → (b g : ℕ) (boards : List X) (d y : X) → b < length boards
+    → y ≡ lens.with_lines (get_or boards b d) (with_dirty (lens.lines_of (get_or boards b d)) g) → caches lens (set boards b y) ≡ dirtied_in (caches lens boards) b g
+dirtied_caches lens lawful b g boards d y within is =
+    caches-set lens lawful boards b d y (with_dirty (lens.lines_of (get_or boards b d)) g) is
+    ∙ ap (λ (ls : List (Option Line)). set (caches lens boards) b (with_dirty ls g)) (sym (lines_here lens.lines_of boards b d within))

@@ -5,9 +5,11 @@ use Rattle.std.proofs.lemmas.List.{length-map}
 use Rattle.spur_addr.specs.Address.{entry_address_of, root_index_of, table_start}
 use Rattle.spur_addr.specs.PageEntry.{is_readable, is_valid}
 use Rattle.spur_cache.specs.declared.line.Line.{Line}
+use Rattle.spur_cache.specs.Lens.{IsLens, Lens, OnlyLines, caches}
 use Rattle.spur_cache.specs.Lines.{found, word_in}
 use Rattle.spur_snoop.specs.declared.Need.{Need}
 use Rattle.spur_bus.proofs.BoardFacts.{lines_here}
+use Rattle.spur_bus.proofs.LensFacts.{only_lines-still}
 use Rattle.spur_walk.specs.declared.plan.Plan.{Plan}
 use Rattle.spur_walk.specs.declared.plan.Plan.TheVariants as plan
 use Rattle.spur_walk.specs.declared.step.Walked.{Walked}
@@ -15,7 +17,7 @@ use Rattle.spur_bus.specs.Logical.{logical_words}
 use Rattle.spur_walk.specs.Tables.{logical_flat, root_at}
 use Rattle.spur_walk.specs.Present.{MayWalk}
 use Rattle.spur_walk.specs.Plan.{access_plan, own_page_plan, own_plan, page_plan}
-use Rattle.spur_walk.specs.Steps.{HasNoEntry, answer_of, stepped_boards, stepped_memory}
+use Rattle.spur_walk.specs.Steps.{HasNoEntry, Steps, answer_of, stepped, stepped_memory}
 use Rattle.spur_walk.proofs.TableFacts.{entry_readable, own_is, own_page_is, root_readable}
 
 -- a board is one of the caches
@@ -49,29 +51,23 @@ root_read lines_of boards d lines memory b at less may user is =
     subst (λ (ls : List (Option Line)). IsTrue (is_readable (word_in (found ls (entry_address_of (entry_address_of at))) (entry_address_of (entry_address_of at))))) (own_lines lines_of boards d lines b less is)
     (root_readable (map lines_of boards) memory b at may (within lines_of boards b less) user)
 
--- what was changed by a plan was changed by the same one towards the same address
-pub changed_by : {X : Type 0} (lines_of : X → List (Option Line)) (with_lines : X → List (Option Line) → X) (caches : List (List (Option Line))) (memory : List ℕ) (b g h : ℕ) (p q : Plan) (boards now : List X)
-    → now ≡ stepped_boards lines_of with_lines caches memory b g p boards → g ≡ h → p ≡ q → now ≡ stepped_boards lines_of with_lines caches memory b h q boards
-changed_by lines_of with_lines caches memory b g h p q boards now is same_at same_plan =
-    is ∙ ap (λ (n : ℕ). stepped_boards lines_of with_lines caches memory b n p boards) same_at ∙ ap (λ (r : Plan). stepped_boards lines_of with_lines caches memory b h r boards) same_plan
+-- what a step of a plan leaves, one of the same plan towards the same address leaves
+pub stepped_by : (before after : List (List (Option Line))) (old new : List ℕ) (b g h : ℕ) (p q : Plan) → Steps before old b g p after new → g ≡ h → p ≡ q → Steps before old b h q after new
+stepped_by before after old new b g h p q steps same_at same_plan =
+    subst (λ (r : Plan). Steps before old b h r after new) same_plan (subst (λ (n : ℕ). Steps before old b n p after new) same_at steps)
 
--- and an answer of a plan is one of the same
+-- an answer of a plan is one of the same
 pub answered_by : (b g h : ℕ) (p q : Plan) (answer : Walked) → answer ≡ answer_of b g p → g ≡ h → p ≡ q → answer ≡ answer_of b h q
 answered_by b g h p q answer is same_at same_plan = is ∙ ap (λ (n : ℕ). answer_of b n p) same_at ∙ ap (answer_of b h) same_plan
 
--- and so the memory
-pub stored_by : (caches : List (List (Option Line))) (memory : List ℕ) (b : ℕ) (p q : Plan) (now : List ℕ) → now ≡ stepped_memory caches memory b p → p ≡ q → now ≡ stepped_memory caches memory b q
-stored_by caches memory b p q now is same_plan = is ∙ ap (stepped_memory caches memory b) same_plan
-
--- the step of a plan whose answer has no entry changes no board, and not the memory
-still_boards : {X : Type 0} (lines_of : X → List (Option Line)) (with_lines : X → List (Option Line) → X) (caches : List (List (Option Line))) (memory : List ℕ) (b g : ℕ) (p : Plan) (boards : List X)
-    → HasNoEntry (answer_of b g p) → stepped_boards lines_of with_lines caches memory b g p boards ≡ boards
-still_boards lines_of with_lines caches memory b g plan.Ready boards none = refl
-still_boards lines_of with_lines caches memory b g (plan.Fault kind) boards none = refl
-still_boards lines_of with_lines caches memory b g plan.Refresh boards none = elim none [ ]
-still_boards lines_of with_lines caches memory b g plan.Claim boards none = elim none [ ]
-still_boards lines_of with_lines caches memory b g (plan.WriteBack at) boards none = elim none [ ]
-still_boards lines_of with_lines caches memory b g (plan.Fill l n at place) boards none = elim none [ ]
+-- the step of a plan whose answer has no entry changes no cache, and not the memory
+still_caches : (caches : List (List (Option Line))) (memory : List ℕ) (b g : ℕ) (p : Plan) → HasNoEntry (answer_of b g p) → stepped caches memory b g p ≡ caches
+still_caches caches memory b g plan.Ready none = refl
+still_caches caches memory b g (plan.Fault kind) none = refl
+still_caches caches memory b g plan.Refresh none = elim none [ ]
+still_caches caches memory b g plan.Claim none = elim none [ ]
+still_caches caches memory b g (plan.WriteBack at) none = elim none [ ]
+still_caches caches memory b g (plan.Fill l n at place) none = elim none [ ]
 
 still_memory : (caches : List (List (Option Line))) (memory : List ℕ) (b g : ℕ) (p : Plan) → HasNoEntry (answer_of b g p) → stepped_memory caches memory b p ≡ memory
 still_memory caches memory b g plan.Ready none = refl
@@ -81,12 +77,13 @@ still_memory caches memory b g plan.Claim none = elim none [ ]
 still_memory caches memory b g (plan.WriteBack at) none = elim none [ ]
 still_memory caches memory b g (plan.Fill l n at place) none = elim none [ ]
 
-pub boards_still : {X : Type 0} (lines_of : X → List (Option Line)) (with_lines : X → List (Option Line) → X) (caches : List (List (Option Line))) (memory : List ℕ) (b g : ℕ) (p : Plan) (answer : Walked) (boards now : List X)
-    → answer ≡ answer_of b g p → now ≡ stepped_boards lines_of with_lines caches memory b g p boards → HasNoEntry answer → now ≡ boards
-boards_still lines_of with_lines caches memory b g p answer boards now said is none = is ∙ still_boards lines_of with_lines caches memory b g p boards (subst HasNoEntry said none)
+pub boards_still : {X : Type 0} (lens : Lens X) → IsLens lens → (boards now : List X) (old new : List ℕ) (b g : ℕ) (p : Plan) (answer : Walked) → answer ≡ answer_of b g p
+    → OnlyLines lens boards now → Steps (caches lens boards) old b g p (caches lens now) new → HasNoEntry answer → now ≡ boards
+boards_still lens lawful boards now old new b g p answer said only steps none =
+    only_lines-still lens lawful boards now only (steps.caches ∙ still_caches (caches lens boards) old b g p (subst HasNoEntry said none))
 
-pub memory_still : (caches : List (List (Option Line))) (memory : List ℕ) (b g : ℕ) (p : Plan) (answer : Walked) (now : List ℕ) → answer ≡ answer_of b g p → now ≡ stepped_memory caches memory b p → HasNoEntry answer → now ≡ memory
-memory_still caches memory b g p answer now said is none = is ∙ still_memory caches memory b g p (subst HasNoEntry said none)
+pub memory_still : (before after : List (List (Option Line))) (old new : List ℕ) (b g : ℕ) (p : Plan) (answer : Walked) → answer ≡ answer_of b g p → Steps before old b g p after new → HasNoEntry answer → new ≡ old
+memory_still before after old new b g p answer said steps none = steps.memory ∙ still_memory before old b g p (subst HasNoEntry said none)
 
 -- as many caches are as many boards
 pub same_count : {X : Type 0} (lines_of : X → List (Option Line)) (boards now : List X) → length (map lines_of now) ≡ length (map lines_of boards) → length now ≡ length boards

@@ -1,10 +1,10 @@
 -- The first step that applies, by the board's own lines and the tables.
-use Rattle.std.specs.Prelude.{ℕ, ◌&&◌, not, true, if◌then◌else◌, List, [], get_or, slice_index, Option, Some, None}
+use Rattle.std.specs.Prelude.{ℕ, ◌&&◌, not, true, if◌then◌else◌, List, [], get_or, slice_index, IsTrue, Option, Some, None}
 use Rattle.spur_addr.specs.Address.{entry_address_of, word_in_block_of}
-use Rattle.spur_addr.specs.PageEntry.{is_valid, is_referenced, is_dirty, is_on_swap, is_leaving, number_of, protection_of}
+use Rattle.spur_addr.specs.PageEntry.{is_readable, is_valid, is_referenced, is_dirty, is_on_swap, is_leaving, number_of, protection_of}
 use Rattle.spur_addr.specs.declared.page_entry.Protection.TheVariants as allow
 use Rattle.spur_cache.specs.declared.line.Line.{Line}
-use Rattle.spur_cache.specs.Lines.{found, victim_of}
+use Rattle.spur_cache.specs.Lines.{found, victim_of, word_in}
 use Rattle.spur_snoop.specs.declared.Need.{Need}
 use Rattle.spur_snoop.specs.declared.Need.TheVariants.{Read, Write}
 use Rattle.spur_snoop.specs.Protocol.{is_owned}
@@ -141,3 +141,7 @@ own_plan own at need = plan_by own at need (held own (entry_address_of at)) (hel
 
 abbrev pub own_page_plan : List (Option Line) → ℕ → Plan
 own_page_plan own page = page_by own page (held own (entry_address_of (entry_address_of page))) (found own (entry_address_of page))
+
+-- the word of g in the cache's line of its block is one of an entry, where it has one
+abbrev pub IsReadableIn : List (Option Line) → ℕ → Type 0
+IsReadableIn own g = IsTrue (is_readable (word_in (found own g) g))

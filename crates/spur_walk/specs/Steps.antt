@@ -4,10 +4,6 @@ use Rattle.spur_addr.specs.Address.{block_start_of, entry_address_of, table_star
 use Rattle.spur_addr.specs.PageEntry.{is_valid, is_dirty, is_leaving}
 use Rattle.spur_cache.specs.declared.line.Line.{Line}
 use Rattle.spur_cache.specs.Lines.{standing, with_dirty}
-use Rattle.spur_snoop.specs.declared.BlockState.{BlockState}
-use Rattle.spur_snoop.specs.declared.BlockState.TheVariants.{UnOwned, OwnedExclusive}
-use Rattle.spur_snoop.specs.declared.BusKind.{BusKind}
-use Rattle.spur_snoop.specs.declared.BusKind.TheVariants as bus
 use Rattle.spur_snoop.specs.declared.Need.{Need}
 use Rattle.spur_snoop.specs.declared.Need.TheVariants.{Read}
 use Rattle.spur_snoop.specs.Protocol.{is_owned}
@@ -19,19 +15,19 @@ use Rattle.spur_flat.specs.declared.entry.Layer.TheVariants.{RootBlock, PteBlock
 use Rattle.spur_flat.specs.declared.entry.Entry.TheVariants as entry
 use Rattle.spur_flat.specs.Blocks.{root_word_of}
 use Rattle.spur_flat.specs.Pager.{word_of}
-use Rattle.spur_flat.specs.TagLines.{each_from, filled_state, kind_of, tags_on}
+use Rattle.spur_flat.specs.TagLines.{tags_on}
 use Rattle.spur_flat.specs.TagRules.{may_claim, may_fill, tags_refusal}
 use Rattle.spur_bus.specs.declared.place.Place.{Place}
-use Rattle.spur_bus.specs.Boards.{line_of_block, restated_boards, turned, turned_boards}
-use Rattle.spur_bus.specs.Logical.{logical_block, logical_words}
-use Rattle.spur_bus.specs.Calls.{HasLine, line_count, read_line, tags_of, written_back}
+use Rattle.spur_bus.specs.Boards.{line_of_block}
+use Rattle.spur_bus.specs.Logical.{logical_words}
+use Rattle.spur_bus.specs.Calls.{HasLine, claimed, line_count, read_caches, shared_again, tags_of, written_back}
 use Rattle.spur_walk.specs.declared.plan.Plan.{Plan}
 use Rattle.spur_walk.specs.declared.plan.Plan.TheVariants as plan
 use Rattle.spur_walk.specs.declared.step.Walked.{Walked}
 use Rattle.spur_walk.specs.declared.step.Walked.TheVariants as walked
 use Rattle.spur_walk.specs.Tables.{logical_flat, HasTablesOf}
 use Rattle.spur_walk.specs.Present.{MayWalk, ArePresent}
-use Rattle.spur_walk.specs.Plan.{user_place, table_place, root_place}
+use Rattle.spur_walk.specs.Plan.{access_plan, page_plan, user_place, table_place, root_place}
 
 -- cache b has a line of the block of g
 pub record HasBlock (caches : List (List (Option Line))) (b g : ℕ) : Type 0 where
@@ -78,6 +74,10 @@ MayDo F caches b g plan.Claim = MayTake caches b g
 MayDo F caches b g (plan.WriteBack at) = HasLine caches b at is_owned
 MayDo F caches b g (plan.Fill layer need at place) = MayFill F caches b layer need at place
 
+-- that, by the tables of the logical memory
+abbrev pub MayTakeStep : List (List (Option Line)) → List ℕ → ℕ → ℕ → Plan → Type 0
+MayTakeStep caches memory b g plan = MayDo (logical_flat caches memory) caches b g plan
+
 -- the answer of a step of board b towards g, by its plan: what it planned, with the entry of the history that it makes
 abbrev pub answer_of : ℕ → ℕ → Plan → Walked
 answer_of b g plan.Ready = walked.Ready
@@ -93,22 +93,7 @@ HasNoEntry walked.Ready = ⊤
 HasNoEntry (walked.Fault kind) = ⊤
 HasNoEntry (walked.Moved e) = ⊥
 
--- board k after board `own` set the dirty copy of the block of g
-abbrev pub dirtied_board : {X : Type 0} → (X → List (Option Line)) → (X → List (Option Line) → X) → ℕ → ℕ → ℕ → X → X
-dirtied_board lines_of with_lines own g k board = if k == own then with_lines board (with_dirty (lines_of board) g) else board
-
--- all boards after a step of board b towards g, by its plan, where these are their caches and the memory before it: nothing
--- of them changes but lines, and where the plan is Ready or a fault, nothing at all
-abbrev pub stepped_boards : {X : Type 0} → (X → List (Option Line)) → (X → List (Option Line) → X) → List (List (Option Line)) → List ℕ → ℕ → ℕ → Plan → List X → List X
-stepped_boards lines_of with_lines caches memory b g plan.Ready boards = boards
-stepped_boards lines_of with_lines caches memory b g (plan.Fault kind) boards = boards
-stepped_boards lines_of with_lines caches memory b g plan.Refresh boards = each_from (dirtied_board lines_of with_lines b g) 0 boards
-stepped_boards lines_of with_lines caches memory b g plan.Claim boards = restated_boards lines_of with_lines b g bus.Claim OwnedExclusive (line_of_block caches b g) boards
-stepped_boards lines_of with_lines caches memory b g (plan.WriteBack at) boards = restated_boards lines_of with_lines b at bus.WriteBack UnOwned (line_of_block caches b at) boards
-stepped_boards lines_of with_lines caches memory b g (plan.Fill layer need at place) boards =
-    turned_boards lines_of with_lines b at (kind_of need) (read_line at (filled_state need) place (logical_block caches memory place.frame at)) boards
-
--- the memory after it: only a write-back writes to it
+-- the memory after a step of board b, by its plan: only a write-back writes to it
 abbrev pub stepped_memory : List (List (Option Line)) → List ℕ → ℕ → Plan → List ℕ
 stepped_memory caches memory b plan.Ready = memory
 stepped_memory caches memory b (plan.Fault kind) = memory
@@ -117,21 +102,18 @@ stepped_memory caches memory b plan.Claim = memory
 stepped_memory caches memory b (plan.WriteBack at) = written_back memory at (line_of_block caches b at)
 stepped_memory caches memory b (plan.Fill layer need at place) = memory
 
--- the same of the caches alone
-abbrev pub restated : List (List (Option Line)) → ℕ → ℕ → BusKind → BlockState → Option Line → List (List (Option Line))
-restated caches own g kind state None = caches
-restated caches own g kind state (Some line) = turned caches own g kind (record line { state = state })
-
+-- the caches after board `own` set the dirty copy of the block of g
 abbrev pub dirtied_in : List (List (Option Line)) → ℕ → ℕ → List (List (Option Line))
 dirtied_in caches own g = slice_set caches own (with_dirty (get_or caches own []) g)
 
+-- the caches after a step of board b towards g, by its plan, where these are the caches and the memory before it
 abbrev pub stepped : List (List (Option Line)) → List ℕ → ℕ → ℕ → Plan → List (List (Option Line))
 stepped caches memory b g plan.Ready = caches
 stepped caches memory b g (plan.Fault kind) = caches
 stepped caches memory b g plan.Refresh = dirtied_in caches b g
-stepped caches memory b g plan.Claim = restated caches b g bus.Claim OwnedExclusive (line_of_block caches b g)
-stepped caches memory b g (plan.WriteBack at) = restated caches b at bus.WriteBack UnOwned (line_of_block caches b at)
-stepped caches memory b g (plan.Fill layer need at place) = turned caches b at (kind_of need) (read_line at (filled_state need) place (logical_block caches memory place.frame at))
+stepped caches memory b g plan.Claim = claimed caches b g
+stepped caches memory b g (plan.WriteBack at) = shared_again caches b at
+stepped caches memory b g (plan.Fill layer need at place) = read_caches caches memory b need at place
 
 -- the tags after an answer, and why it is refused by the tags: an answer without an entry changes none, and is not
 abbrev pub tags_walked : Flat → List (List (Option Tag)) → Walked → List (List (Option Tag))
@@ -144,12 +126,13 @@ walked_refusal F T walked.Ready = None
 walked_refusal F T (walked.Fault kind) = None
 walked_refusal F T (walked.Moved e) = tags_refusal F T e
 
--- What a step leaves, by its plan. All that the walk needs is there again, so that a caller can repeat it: the logical
+-- What a step leaves, by its plan: the caches, and the memory. All that the walk needs is there again, so that a caller can repeat it: the logical
 -- memory is as it was, and where the lines were of present pages, they are again. The numbers of caches, of lines and of
 -- words stay. In every flat state with the root and table words of the logical memory, the tags allow the entry and move by
 -- its tag step.
 pub record Steps (before : List (List (Option Line))) (old : List ℕ) (b g : ℕ) (plan : Plan) (after : List (List (Option Line))) (new : List ℕ) : Type 0 where
   pub caches : after ≡ stepped before old b g plan
+  pub memory : new ≡ stepped_memory before old b plan
   pub walk : MayWalk after new
   pub logical : logical_words after new ≡ logical_words before old
   pub present : ArePresent (logical_flat before old) before → ArePresent (logical_flat after new) after
@@ -158,3 +141,10 @@ pub record Steps (before : List (List (Option Line))) (old : List ℕ) (b g : �
   pub size : length new ≡ length old
   pub tagged : (F : Flat) → HasTablesOf F (logical_words before old) → walked_refusal F (tags_of before) (answer_of b g plan) ≡ None
   pub tags : (F : Flat) → HasTablesOf F (logical_words before old) → tags_of after ≡ tags_walked F (tags_of before) (answer_of b g plan)
+
+-- that, of the first step that applies towards an access, and of the first towards the block of a page's entry
+abbrev pub StepsTowards : List (List (Option Line)) → List ℕ → ℕ → ℕ → Need → List (List (Option Line)) → List ℕ → Type 0
+StepsTowards before old b at need after new = Steps before old b at (access_plan before old b at need) after new
+
+abbrev pub StepsTowardsEntry : List (List (Option Line)) → List ℕ → ℕ → ℕ → List (List (Option Line)) → List ℕ → Type 0
+StepsTowardsEntry before old b page after new = Steps before old b (entry_address_of page) (page_plan before old b page) after new

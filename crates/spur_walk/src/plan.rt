@@ -3,10 +3,11 @@
 ghost use Rattle.std.specs.Prelude.{◌≡◌, ◌<◌, ◌*◌, ◌^◌, IsSome, IsTrue};
 ghost use Rattle.spur_addr.specs.Address.{entry_address_of, table_start};
 ghost use Rattle.spur_addr.specs.PageEntry.{is_readable};
-ghost use Rattle.spur_cache.specs.Lines.{IsCache, found, word_in};
+ghost use Rattle.spur_cache.specs.Lines.{IsCache};
 ghost use Rattle.spur_snoop.specs.Protocol.{is_owned};
 ghost use Rattle.spur_flat.specs.declared.entry.Layer.TheVariants as layer;
-ghost use Rattle.spur_walk.specs.Plan.{climb, dirty_plan, fault_of, filling, held, own_page_plan, own_plan, page_climb, root_plan, table_place, table_plan, user_plan};
+ghost use Rattle.spur_walk.specs.Plan.{IsReadableIn, climb, dirty_plan, fault_of, filling, held, own_page_plan, own_plan};
+ghost use Rattle.spur_walk.specs.Plan.{page_climb, root_plan, table_place, table_plan, user_plan};
 ghost use Rattle.spur_walk.specs.Tables.{block_address};
 
 use crate::looked::{Looked, granted, look};
@@ -48,8 +49,8 @@ pub enum Plan {
 /// The first step towards an access, by the lines of the board's own cache.
 pub(crate) fn access_step(own: &Cache, at: GlobalAddr, need: Need) -> Plan
     requires cache { IsCache own.now }
-    requires entry { IsTrue (is_readable (word_in (found own.now (entry_address_of at)) (entry_address_of at))) }
-    requires root { IsTrue (is_readable (word_in (found own.now (entry_address_of (entry_address_of at))) (entry_address_of (entry_address_of at)))) }
+    requires entry { IsReadableIn own.now (entry_address_of at) }
+    requires root { IsReadableIn own.now (entry_address_of (entry_address_of at)) }
     ensures { result ≡ own_plan own.now at need }
 {
     match look(own, at, need) {
@@ -70,7 +71,7 @@ pub(crate) fn access_step(own: &Cache, at: GlobalAddr, need: Need) -> Plan
 /// The first step towards the block of a page's entry, which is to be written.
 pub(crate) fn page_step(own: &Cache, page: GlobalAddr) -> Plan
     requires cache { IsCache own.now }
-    requires root { IsTrue (is_readable (word_in (found own.now (entry_address_of (entry_address_of page))) (entry_address_of (entry_address_of page)))) }
+    requires root { IsReadableIn own.now (entry_address_of (entry_address_of page)) }
     ensures { result ≡ own_page_plan own.now page }
 {
     match own.find(pte_of(page)) {
@@ -87,7 +88,7 @@ pub(crate) fn page_step(own: &Cache, page: GlobalAddr) -> Plan
 
 /// A page-table entry, where the cache has the block of its address.
 fn held_entry(own: &Cache, at: GlobalAddr) -> Option<Pte>
-    requires { IsTrue (is_readable (word_in (found own.now at) at)) }
+    requires { IsReadableIn own.now at }
     ensures { result ≡ held own.now at }
 {
     match own.find(at) {
@@ -163,7 +164,7 @@ fn fault(entry: Pte, need: Need) -> Option<FaultKind>
 /// The step of an access where the block of its page's entry is not there.
 fn climb_step(own: &Cache, at: GlobalAddr) -> Plan
     requires cache { IsCache own.now }
-    requires root { IsTrue (is_readable (word_in (found own.now (entry_address_of (entry_address_of at))) (entry_address_of (entry_address_of at)))) }
+    requires root { IsReadableIn own.now (entry_address_of (entry_address_of at)) }
     ensures { result ≡ climb own.now at (held own.now (entry_address_of (entry_address_of at))) }
 {
     match held_entry(own, pte_of(pte_of(at))) {
@@ -175,7 +176,7 @@ fn climb_step(own: &Cache, at: GlobalAddr) -> Plan
 /// The step that brings the block of a page's entry to be written, where it is not there.
 fn page_climb_step(own: &Cache, page: GlobalAddr) -> Plan
     requires cache { IsCache own.now }
-    requires root { IsTrue (is_readable (word_in (found own.now (entry_address_of (entry_address_of page))) (entry_address_of (entry_address_of page)))) }
+    requires root { IsReadableIn own.now (entry_address_of (entry_address_of page)) }
     ensures { result ≡ page_climb own.now page (held own.now (entry_address_of (entry_address_of page))) }
 {
     match held_entry(own, pte_of(pte_of(page))) {

@@ -1,16 +1,15 @@
 //! A planned step is done.
 
-ghost use Rattle.std.specs.Prelude.{◌≡◌, ◌<◌, IsSome, length, map};
+ghost use Rattle.std.specs.Prelude.{◌≡◌, ◌<◌, IsSome, length};
 ghost use Rattle.spur_addr.specs.Address.{block_start_of};
-ghost use Rattle.spur_flat.specs.TagLines.{each_from, filled_state, kind_of};
+ghost use Rattle.spur_cache.specs.Lens.{OnlyLines, caches};
 ghost use Rattle.spur_flat.specs.declared.entry.Entry.TheVariants as entry;
 ghost use Rattle.spur_bus.specs.Agrees.{Agrees, Serves};
-ghost use Rattle.spur_bus.specs.Boards.{line_of_block, turned_boards};
-ghost use Rattle.spur_bus.specs.Logical.{logical_block, logical_words};
-ghost use Rattle.spur_bus.specs.Calls.{MayRead, MovesTagsAs, line_count, read_line};
+ghost use Rattle.spur_bus.specs.Boards.{line_of_block};
+ghost use Rattle.spur_bus.specs.Logical.{logical_of};
+ghost use Rattle.spur_bus.specs.Calls.{MayRead, MovesTagsAs, line_count, read_caches};
 ghost use Rattle.spur_walk.specs.Present.{MayWalk};
-ghost use Rattle.spur_walk.specs.Steps.{MayDo, Steps, answer_of, dirtied_board, stepped_boards, stepped_memory};
-ghost use Rattle.spur_walk.specs.Tables.{logical_flat};
+ghost use Rattle.spur_walk.specs.Steps.{MayTakeStep, Steps, answer_of, dirtied_in};
 
 use crate::plan::Plan;
 use spur_addr::GlobalAddr;
@@ -40,12 +39,11 @@ pub(crate) fn perform<T: HasCache>(
     plan: Plan,
 ) -> Walked
     requires own { b < length boards.old }
-    requires walk { MayWalk (map T.lines_of boards.old) phys.old }
-    requires may { MayDo (logical_flat (map T.lines_of boards.old) phys.old) (map T.lines_of boards.old) b at plan }
+    requires walk { MayWalk (caches T.lens boards.old) phys.old }
+    requires may { MayTakeStep (caches T.lens boards.old) phys.old b at plan }
     ensures answer { result ≡ answer_of b at plan }
-    ensures change { boards.new ≡ stepped_boards T.lines_of T.with_lines (map T.lines_of boards.old) phys.old b at plan boards.old }
-    ensures memory { phys.new ≡ stepped_memory (map T.lines_of boards.old) phys.old b plan }
-    ensures steps { Steps (map T.lines_of boards.old) phys.old b at plan (map T.lines_of boards.new) phys.new }
+    ensures lens { OnlyLines T.lens boards.old boards.new }
+    ensures steps { Steps (caches T.lens boards.old) phys.old b at plan (caches T.lens boards.new) phys.new }
 {
     match plan {
         Plan::Ready => Walked::Ready,
@@ -65,9 +63,10 @@ pub(crate) fn perform<T: HasCache>(
 /// Sets the dirty copy of a block that the cache of board `b` has.
 fn refresh<T: HasCache>(boards: &mut [T], b: u32, at: GlobalAddr) -> Entry
     requires own { b < length boards.old }
-    requires there { IsSome (line_of_block (map T.lines_of boards.old) b at) }
+    requires there { IsSome (line_of_block (caches T.lens boards.old) b at) }
     ensures entry { result ≡ entry.Refresh b (block_start_of at) }
-    ensures change { boards.new ≡ each_from (dirtied_board T.lines_of T.with_lines b at) 0 boards.old }
+    ensures change { caches T.lens boards.new ≡ dirtied_in (caches T.lens boards.old) b at }
+    ensures lens { OnlyLines T.lens boards.old boards.new }
 {
     boards[b as usize].set_line_dirty(at);
     Entry::Refresh {
@@ -87,16 +86,19 @@ fn read<T: HasCache>(
     place: Place,
 ) -> Entry
     requires own { b < length boards.old }
-    requires agree { Agrees (map T.lines_of boards.old) }
-    requires serves { Serves (map T.lines_of boards.old) phys.now }
-    requires may { MayRead (map T.lines_of boards.old) phys.now b at place.frame }
+    requires agree { Agrees (caches T.lens boards.old) }
+    requires serves { Serves (caches T.lens boards.old) phys.now }
+    requires may { MayRead (caches T.lens boards.old) phys.now b at place.frame }
     ensures entry { result ≡ entry.Fill b layer need (block_start_of at) }
-    ensures change { boards.new ≡ turned_boards T.lines_of T.with_lines b at (kind_of need) (read_line at (filled_state need) place (logical_block (map T.lines_of boards.old) phys.now place.frame at)) boards.old }
-    ensures agree { Agrees (map T.lines_of boards.new) }
-    ensures serves { Serves (map T.lines_of boards.new) phys.now }
-    ensures logical { logical_words (map T.lines_of boards.new) phys.now ≡ logical_words (map T.lines_of boards.old) phys.now }
-    ensures lines { line_count (map T.lines_of boards.new) ≡ line_count (map T.lines_of boards.old) }
-    ensures tags { MovesTagsAs (map T.lines_of boards.old) (map T.lines_of boards.new) result layer need (block_start_of at) place }
+    ensures change { caches T.lens boards.new ≡ read_caches (caches T.lens boards.old) phys.now b need at place }
+    ensures lens { OnlyLines T.lens boards.old boards.new }
+    ensures agree { Agrees (caches T.lens boards.new) }
+    ensures serves { Serves (caches T.lens boards.new) phys.now }
+    ensures logical { logical_of T.lens boards.new phys.now ≡ logical_of T.lens boards.old phys.now }
+    ensures lines { line_count (caches T.lens boards.new) ≡ line_count (caches T.lens boards.old) }
+    ensures tags {
+        MovesTagsAs (caches T.lens boards.old) (caches T.lens boards.new) result layer need (block_start_of at) place
+    }
 {
     match need {
         Need::Read => read_shared(boards, phys, b, at, layer, place),

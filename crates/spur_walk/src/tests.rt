@@ -1,8 +1,9 @@
 //! The walk on one cache, step by step.
 
-ghost use Rattle.std.specs.Prelude.{◌≡◌, ◌<◌, ◌∷◌, [], IfOk, length, map, true};
+ghost use Rattle.std.specs.Prelude.{◌≡◌, ◌<◌, ◌∷◌, [], IfOk, length, true};
 ghost use Rattle.spur_addr.specs.Address.{table_start};
 ghost use Rattle.spur_addr.specs.PageEntry.{is_valid};
+ghost use Rattle.spur_cache.specs.Lens.{caches};
 ghost use Rattle.spur_walk.specs.Begins.{may_begin};
 ghost use Rattle.spur_walk.specs.Present.{MayWalk};
 ghost use Rattle.spur_walk.specs.Tables.{logical_flat, root_at};
@@ -59,8 +60,8 @@ fn machine(alloc: Global, lines: u32, root: u32, entry: u32) -> Result<(Cache, P
 fn follow<T: HasCache>(boards: &mut [T], phys: &mut Phys, at: GlobalAddr, need: Need) -> [Walked; 4]
     requires own { 0 < length boards.old }
     requires user { at < table_start }
-    requires walk { MayWalk (map T.lines_of boards.old) phys.old }
-    ensures walk { MayWalk (map T.lines_of boards.new) phys.new }
+    requires walk { MayWalk (caches T.lens boards.old) phys.old }
+    ensures walk { MayWalk (caches T.lens boards.new) phys.new }
     ensures count { length boards.new ≡ length boards.old }
 {
     let first = advance(boards, phys, 0, at, need);
@@ -74,9 +75,9 @@ fn follow<T: HasCache>(boards: &mut [T], phys: &mut Phys, at: GlobalAddr, need: 
 fn follow_entry<T: HasCache>(boards: &mut [T], phys: &mut Phys, page: GlobalAddr) -> [Walked; 4]
     requires own { 0 < length boards.old }
     requires user { page < table_start }
-    requires walk { MayWalk (map T.lines_of boards.old) phys.old }
-    requires root { is_valid (root_at (logical_flat (map T.lines_of boards.old) phys.old) page) ≡ true }
-    ensures walk { MayWalk (map T.lines_of boards.new) phys.new }
+    requires walk { MayWalk (caches T.lens boards.old) phys.old }
+    requires root { is_valid (root_at (logical_flat (caches T.lens boards.old) phys.old) page) ≡ true }
+    ensures walk { MayWalk (caches T.lens boards.new) phys.new }
     ensures count { length boards.new ≡ length boards.old }
 {
     let first = advance_entry(boards, phys, 0, page);

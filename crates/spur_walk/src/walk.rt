@@ -1,11 +1,12 @@
 //! The steps of a walk.
 
-ghost use Rattle.std.specs.Prelude.{◌≡◌, ◌<◌, length, map, true};
+ghost use Rattle.std.specs.Prelude.{◌≡◌, ◌<◌, length, true};
 ghost use Rattle.spur_addr.specs.Address.{entry_address_of, table_start};
 ghost use Rattle.spur_addr.specs.PageEntry.{is_valid};
+ghost use Rattle.spur_cache.specs.Lens.{OnlyLines, caches};
 ghost use Rattle.spur_walk.specs.Plan.{access_plan, page_plan};
 ghost use Rattle.spur_walk.specs.Present.{MayWalk};
-ghost use Rattle.spur_walk.specs.Steps.{HasNoEntry, Steps, answer_of, stepped_boards, stepped_memory};
+ghost use Rattle.spur_walk.specs.Steps.{HasNoEntry, StepsTowards, StepsTowardsEntry, answer_of};
 ghost use Rattle.spur_walk.specs.Tables.{logical_flat, root_at};
 
 use crate::plan::{access_step, page_step};
@@ -32,13 +33,12 @@ pub fn advance<T: HasCache>(
 ) -> Walked
     requires own { b < length boards.old }
     requires user { at < table_start }
-    requires walk { MayWalk (map T.lines_of boards.old) phys.old }
-    ensures answer { result ≡ answer_of b at (access_plan (map T.lines_of boards.old) phys.old b at need) }
-    ensures change { boards.new ≡ stepped_boards T.lines_of T.with_lines (map T.lines_of boards.old) phys.old b at (access_plan (map T.lines_of boards.old) phys.old b at need) boards.old }
-    ensures memory { phys.new ≡ stepped_memory (map T.lines_of boards.old) phys.old b (access_plan (map T.lines_of boards.old) phys.old b at need) }
+    requires walk { MayWalk (caches T.lens boards.old) phys.old }
+    ensures answer { result ≡ answer_of b at (access_plan (caches T.lens boards.old) phys.old b at need) }
+    ensures lens { OnlyLines T.lens boards.old boards.new }
     ensures boards_stay { HasNoEntry result → boards.new ≡ boards.old }
     ensures memory_stays { HasNoEntry result → phys.new ≡ phys.old }
-    ensures steps { Steps (map T.lines_of boards.old) phys.old b at (access_plan (map T.lines_of boards.old) phys.old b at need) (map T.lines_of boards.new) phys.new }
+    ensures steps { StepsTowards (caches T.lens boards.old) phys.old b at need (caches T.lens boards.new) phys.new }
     ensures count { length boards.new ≡ length boards.old }
 {
     let plan = access_step(boards[b as usize].cache(), at, need);
@@ -58,16 +58,17 @@ pub fn advance_entry<T: HasCache>(
 ) -> Walked
     requires own { b < length boards.old }
     requires user { page < table_start }
-    requires walk { MayWalk (map T.lines_of boards.old) phys.old }
-    requires root { is_valid (root_at (logical_flat (map T.lines_of boards.old) phys.old) page) ≡ true }
-    ensures answer { result ≡ answer_of b (entry_address_of page) (page_plan (map T.lines_of boards.old) phys.old b page) }
-    ensures change { boards.new ≡ stepped_boards T.lines_of T.with_lines (map T.lines_of boards.old) phys.old b (entry_address_of page) (page_plan (map T.lines_of boards.old) phys.old b page) boards.old }
-    ensures memory { phys.new ≡ stepped_memory (map T.lines_of boards.old) phys.old b (page_plan (map T.lines_of boards.old) phys.old b page) }
+    requires walk { MayWalk (caches T.lens boards.old) phys.old }
+    requires root { is_valid (root_at (logical_flat (caches T.lens boards.old) phys.old) page) ≡ true }
+    ensures answer {
+        result ≡ answer_of b (entry_address_of page) (page_plan (caches T.lens boards.old) phys.old b page)
+    }
+    ensures lens { OnlyLines T.lens boards.old boards.new }
     ensures boards_stay { HasNoEntry result → boards.new ≡ boards.old }
     ensures memory_stays { HasNoEntry result → phys.new ≡ phys.old }
-    ensures steps { Steps (map T.lines_of boards.old) phys.old b (entry_address_of page) (page_plan (map T.lines_of boards.old) phys.old b page) (map T.lines_of boards.new) phys.new }
+    ensures steps { StepsTowardsEntry (caches T.lens boards.old) phys.old b page (caches T.lens boards.new) phys.new }
     ensures count { length boards.new ≡ length boards.old }
-    ensures root { is_valid (root_at (logical_flat (map T.lines_of boards.new) phys.new) page) ≡ true }
+    ensures root { is_valid (root_at (logical_flat (caches T.lens boards.new) phys.new) page) ≡ true }
 {
     let plan = page_step(boards[b as usize].cache(), page);
     perform(boards, phys, b, pte_of(page), plan)

@@ -1,52 +1,28 @@
-use Rattle.std.proofs.Common.{◌∙◌, ◌<◌, ap, subst, sym, map, ℕ}
+use Rattle.std.proofs.Common.{◌<◌, subst, sym, ℕ}
 use Rattle.std.proofs.lemmas.List.{length-map}
+use Rattle.spur_cache.specs.Lens.{caches}
 use Rattle.spur_bus.specs.Boards.{line_of_block}
-use Rattle.spur_bus.proofs.BoardFacts.{lines_dropped}
 use Rattle.spur_bus.proofs.DropFacts.{dropped_all, flushed_size, tags-dropped}
 use Rattle.spur_bus.proofs.calls.block_flush.Goals as goal
 
-pub returns-clause-size : goal.returns-clause-size
-returns-clause-size g c = flushed_size c.args.phys.now c.save_owned.new.phys c.args.at (line_of_block (map g.T.HasCache.lines_of c.args.boards.now) c.args.holder c.args.at) c.save_owned.ensures
-
-pub returns-clause-agree : goal.returns-clause-agree
-returns-clause-agree g c =
-    let lines_of = g.T.HasCache.lines_of in
-    let within = subst (λ (n : ℕ). c.args.holder < n) (sym (length-map c.args.boards.now lines_of)) c.requires.holder in
-    let news = ap (map lines_of) c.drop_block.ensures ∙ lines_dropped lines_of g.T.HasCache.with_lines g.met.T.HasCache.lines_set c.args.holder c.args.at 0 c.args.boards.now in
-    let all = dropped_all (map lines_of c.args.boards.now) (map lines_of c.drop_block.new.boards) c.args.holder c.args.at c.requires.there.line c.args.phys.now c.save_owned.new.phys c.requires.agree c.requires.serves within
-    c.requires.there.there c.save_owned.ensures news in
-    all.agree
-
-pub returns-clause-serves : goal.returns-clause-serves
-returns-clause-serves g c =
-    let lines_of = g.T.HasCache.lines_of in
-    let within = subst (λ (n : ℕ). c.args.holder < n) (sym (length-map c.args.boards.now lines_of)) c.requires.holder in
-    let news = ap (map lines_of) c.drop_block.ensures ∙ lines_dropped lines_of g.T.HasCache.with_lines g.met.T.HasCache.lines_set c.args.holder c.args.at 0 c.args.boards.now in
-    let all = dropped_all (map lines_of c.args.boards.now) (map lines_of c.drop_block.new.boards) c.args.holder c.args.at c.requires.there.line c.args.phys.now c.save_owned.new.phys c.requires.agree c.requires.serves within
-    c.requires.there.there c.save_owned.ensures news in
-    all.keeps.serves
-
-pub returns-clause-logical : goal.returns-clause-logical
-returns-clause-logical g c =
-    let lines_of = g.T.HasCache.lines_of in
-    let within = subst (λ (n : ℕ). c.args.holder < n) (sym (length-map c.args.boards.now lines_of)) c.requires.holder in
-    let news = ap (map lines_of) c.drop_block.ensures ∙ lines_dropped lines_of g.T.HasCache.with_lines g.met.T.HasCache.lines_set c.args.holder c.args.at 0 c.args.boards.now in
-    let all = dropped_all (map lines_of c.args.boards.now) (map lines_of c.drop_block.new.boards) c.args.holder c.args.at c.requires.there.line c.args.phys.now c.save_owned.new.phys c.requires.agree c.requires.serves within
-    c.requires.there.there c.save_owned.ensures news in
-    all.keeps.logical
-
-pub returns-clause-lines : goal.returns-clause-lines
-returns-clause-lines g c =
-    let lines_of = g.T.HasCache.lines_of in
-    let within = subst (λ (n : ℕ). c.args.holder < n) (sym (length-map c.args.boards.now lines_of)) c.requires.holder in
-    let news = ap (map lines_of) c.drop_block.ensures ∙ lines_dropped lines_of g.T.HasCache.with_lines g.met.T.HasCache.lines_set c.args.holder c.args.at 0 c.args.boards.now in
-    let all = dropped_all (map lines_of c.args.boards.now) (map lines_of c.drop_block.new.boards) c.args.holder c.args.at c.requires.there.line c.args.phys.now c.save_owned.new.phys c.requires.agree c.requires.serves within
-    c.requires.there.there c.save_owned.ensures news in
-    all.lines
-
-pub returns-clause-tags : goal.returns-clause-tags
-returns-clause-tags g c F =
-    let lines_of = g.T.HasCache.lines_of in
-    let within = subst (λ (n : ℕ). c.args.holder < n) (sym (length-map c.args.boards.now lines_of)) c.requires.holder in
-    let news = ap (map lines_of) c.drop_block.ensures ∙ lines_dropped lines_of g.T.HasCache.with_lines g.met.T.HasCache.lines_set c.args.holder c.args.at 0 c.args.boards.now in
-    tags-dropped (map lines_of c.args.boards.now) (map lines_of c.drop_block.new.boards) c.args.holder c.args.at c.block_start.result c.requires.there.line within c.requires.there.there c.block_start.ensures.value news
+pub returns : goal.returns
+returns g c =
+    let lens = g.T.HasCache.lens in
+    let olds = caches lens c.args.boards.now in
+    let news = caches lens c.drop_block.new.boards in
+    let there = c.requires.there in
+    let within = subst (λ (n : ℕ). c.args.holder < n) (sym (length-map c.args.boards.now lens.lines_of)) c.requires.holder in
+    let all = dropped_all olds news c.args.holder c.args.at there.line c.args.phys.now c.save_owned.new.phys c.requires.agree c.requires.serves within there.there c.save_owned.ensures
+    c.drop_block.ensures.change in
+    record {
+      entry = search rules;
+      memory = c.save_owned.ensures;
+      size = flushed_size c.args.phys.now c.save_owned.new.phys c.args.at (line_of_block olds c.args.holder c.args.at) c.save_owned.ensures;
+      change = c.drop_block.ensures.change;
+      lens = c.drop_block.ensures.lens;
+      agree = all.agree;
+      serves = all.keeps.serves;
+      logical = all.keeps.logical;
+      lines = all.lines;
+      tags = λ F. tags-dropped olds news c.args.holder c.args.at c.block_start.result there.line within there.there c.block_start.ensures.value c.drop_block.ensures.change;
+    }

@@ -1,47 +1,25 @@
-use Rattle.std.proofs.Common.{ap}
+use Rattle.std.proofs.Common.{◌<◌, ap, subst, sym, ℕ}
+use Rattle.std.proofs.lemmas.List.{length-map}
+use Rattle.spur_cache.specs.Lens.{caches}
 use Rattle.spur_snoop.specs.declared.Need.TheVariants.{Write}
 use Rattle.spur_bus.specs.Calls.{words_of}
 use Rattle.spur_bus.proofs.ReadFacts.{read_done}
 use Rattle.spur_bus.proofs.calls.read_owned.Goals as goal
 
-pub returns-clause-change : goal.returns-clause-change
-returns-clause-change g c =
-    let done = read_done g.T.HasCache.lines_of g.T.HasCache.with_lines g.met.T.HasCache.lines_set Write c.args.boards.now c.fill.new.boards c.args.phys.now c.args.b c.args.at c.args.place c.read_words-words.result c.new_line-line.result
-    c.requires.own c.requires.agree c.requires.serves c.requires.may c.read_words-words.ensures c.new_line-line.ensures.value c.new_line-line.ensures.small c.fill.ensures in
-    done.change
-
-pub returns-clause-agree : goal.returns-clause-agree
-returns-clause-agree g c =
-    let done = read_done g.T.HasCache.lines_of g.T.HasCache.with_lines g.met.T.HasCache.lines_set Write c.args.boards.now c.fill.new.boards c.args.phys.now c.args.b c.args.at c.args.place c.read_words-words.result c.new_line-line.result
-    c.requires.own c.requires.agree c.requires.serves c.requires.may c.read_words-words.ensures c.new_line-line.ensures.value c.new_line-line.ensures.small c.fill.ensures in
-    done.all.keeps.agree
-
-pub returns-clause-serves : goal.returns-clause-serves
-returns-clause-serves g c =
-    let done = read_done g.T.HasCache.lines_of g.T.HasCache.with_lines g.met.T.HasCache.lines_set Write c.args.boards.now c.fill.new.boards c.args.phys.now c.args.b c.args.at c.args.place c.read_words-words.result c.new_line-line.result
-    c.requires.own c.requires.agree c.requires.serves c.requires.may c.read_words-words.ensures c.new_line-line.ensures.value c.new_line-line.ensures.small c.fill.ensures in
-    done.all.keeps.keeps.serves
-
-pub returns-clause-logical : goal.returns-clause-logical
-returns-clause-logical g c =
-    let done = read_done g.T.HasCache.lines_of g.T.HasCache.with_lines g.met.T.HasCache.lines_set Write c.args.boards.now c.fill.new.boards c.args.phys.now c.args.b c.args.at c.args.place c.read_words-words.result c.new_line-line.result
-    c.requires.own c.requires.agree c.requires.serves c.requires.may c.read_words-words.ensures c.new_line-line.ensures.value c.new_line-line.ensures.small c.fill.ensures in
-    done.all.keeps.keeps.logical
-
-pub returns-clause-words : goal.returns-clause-words
-returns-clause-words g c =
-    let done = read_done g.T.HasCache.lines_of g.T.HasCache.with_lines g.met.T.HasCache.lines_set Write c.args.boards.now c.fill.new.boards c.args.phys.now c.args.b c.args.at c.args.place c.read_words-words.result c.new_line-line.result
-    c.requires.own c.requires.agree c.requires.serves c.requires.may c.read_words-words.ensures c.new_line-line.ensures.value c.new_line-line.ensures.small c.fill.ensures in
-    ap words_of done.all.there
-
-pub returns-clause-lines : goal.returns-clause-lines
-returns-clause-lines g c =
-    let done = read_done g.T.HasCache.lines_of g.T.HasCache.with_lines g.met.T.HasCache.lines_set Write c.args.boards.now c.fill.new.boards c.args.phys.now c.args.b c.args.at c.args.place c.read_words-words.result c.new_line-line.result
-    c.requires.own c.requires.agree c.requires.serves c.requires.may c.read_words-words.ensures c.new_line-line.ensures.value c.new_line-line.ensures.small c.fill.ensures in
-    done.all.keeps.lines
-
-pub returns-clause-tags : goal.returns-clause-tags
-returns-clause-tags g c F gives =
-    let done = read_done g.T.HasCache.lines_of g.T.HasCache.with_lines g.met.T.HasCache.lines_set Write c.args.boards.now c.fill.new.boards c.args.phys.now c.args.b c.args.at c.args.place c.read_words-words.result c.new_line-line.result
-    c.requires.own c.requires.agree c.requires.serves c.requires.may c.read_words-words.ensures c.new_line-line.ensures.value c.new_line-line.ensures.small c.fill.ensures in
-    done.tags F c.args.layer c.block_start.result c.block_start.ensures.value gives
+pub returns : goal.returns
+returns g c =
+    let lens = g.T.HasCache.lens in
+    let within = subst (λ (n : ℕ). c.args.b < n) (sym (length-map c.args.boards.now lens.lines_of)) c.requires.own in
+    let done = read_done Write (caches lens c.args.boards.now) (caches lens c.fill.new.boards) c.args.phys.now c.args.b c.args.at c.args.place c.read_words-words.result c.new_line-line.result
+    within c.requires.agree c.requires.serves c.requires.may c.read_words-words.ensures c.new_line-line.ensures.value c.new_line-line.ensures.small c.fill.ensures.change in
+    record {
+      entry = search rules;
+      change = done.change;
+      lens = c.fill.ensures.lens;
+      agree = done.all.keeps.agree;
+      serves = done.all.keeps.keeps.serves;
+      logical = done.all.keeps.keeps.logical;
+      words = ap words_of done.all.there;
+      lines = done.all.keeps.lines;
+      tags = λ F gives. done.tags F c.args.layer c.block_start.result c.block_start.ensures.value gives;
+    }

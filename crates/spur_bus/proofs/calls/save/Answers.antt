@@ -9,7 +9,7 @@ use Rattle.spur_bus.proofs.calls.save.Goals as goal
 
 pub put_line-requires : goal.put_line-requires
 put_line-requires g c =
-    let lines_of = g.T.HasCache.lines_of in
+    let lines_of = g.T.HasCache.lens.lines_of in
     let within = subst (λ (n : ℕ). c.args.b < n) (sym (length-map c.args.boards.now lines_of)) c.requires.own in
     let there = ap (λ (ls : List (Option Line)). found ls c.args.at)
     (lines_here lines_of c.args.boards.now c.args.b c.index-boards-b.result c.requires.own ∙ ap lines_of (sym c.index-boards-b.is) ∙ sym c.cache.ensures.lines)

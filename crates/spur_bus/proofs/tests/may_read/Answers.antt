@@ -7,7 +7,7 @@ use Rattle.spur_bus.proofs.tests.may_read.Goals as goal
 
 pub returns : goal.returns
 returns g c fit =
-    let lines_of = g.T.HasCache.lines_of in
+    let lines_of = g.T.HasCache.lens.lines_of in
     let whole : 1024 * c.frames.result ≡ length c.args.phys.now = c.frames.ensures.whole in
     let low : c.args.frame < c.frames.result = c.if-frame-frames.false in
     let room : c.args.frame * 1024 + 1024 ≤ length c.args.phys.now = omega arith in
