@@ -23,6 +23,6 @@ abbrev pub told_with : Option (List ℕ) → ℕ → List ℕ → Option (List �
 told_with None slot page = None
 told_with (Some words) slot page = Some (with_page words slot page)
 
--- the number of reads after one more: 2^32 - 1 is its last value, where it stays
-abbrev pub one_read_more : ℕ → ℕ
-one_read_more reads = min (reads + 1) (2 ^ 32 - 1)
+-- the number of calls of a kind after one more: 2^32 - 1 is its last value, where it stays
+abbrev pub one_call_more : ℕ → ℕ
+one_call_more calls = min (calls + 1) (2 ^ 32 - 1)
