@@ -1,6 +1,6 @@
 -- What contracts see of the swap objects in memory.
-use Rattle.std.specs.Prelude.{ℕ, ◌+◌, List, Some, if◌then◌else◌}
-use Rattle.spur_io.specs.Calls.{Calls, after_call, after_fault, fails_next}
+use Rattle.std.specs.Prelude.{ℕ, ◌+◌, List, Some}
+use Rattle.spur_io.specs.Calls.{Calls}
 use Rattle.spur_swap.specs.Meaning.{Swap}
 use Rattle.spur_swap.specs.Pages.{slots_of}
 
@@ -39,7 +39,3 @@ as_swap s = record {
   reads = s.reads.made;
   writes = s.writes.made;
 }
-
--- after the next call, which fails where its number says so
-abbrev pub after_next : Calls → Calls
-after_next c = if fails_next c then after_fault c else after_call c

@@ -1,7 +1,8 @@
 -- What is known of the pages of a swap object: `Some words` is told, `None` is not told.
 use Rattle.std.specs.Prelude.{ℕ, ◌≡◌, ◌+◌, ◌-◌, ◌*◌, ◌^◌, min, List, length, Some, None}
 use Rattle.std.specs.declared.option.Option.{Option}
-use Rattle.spur_swap.specs.Pages.{page_at, with_page, zero_pages}
+use Rattle.spur_addr.specs.Pages.{page_at, with_page}
+use Rattle.spur_swap.specs.Pages.{zero_pages}
 
 -- told pages have 1024 words a slot
 abbrev pub HaveSlots : Option (List ℕ) → ℕ → Type 0

@@ -1,14 +1,13 @@
 //! A swap object in memory whose reads and writes fail as two lists say.
 ghost use Rattle.std.specs.Prelude.{◌≡◌, ◌<◌, ◌≤◌, Err, OnErr, OnOk, [], is_err};
-ghost use Rattle.spur_io.specs.Calls.{fails_next};
-ghost use Rattle.spur_swap.specs.Kept.{after_next, as_swap};
+ghost use Rattle.spur_io.specs.Calls.{after_next, fails_next};
+ghost use Rattle.spur_swap.specs.Kept.{as_swap};
 ghost use Rattle.spur_swap.specs.Meaning.{SameButFaults, after_read, after_write, with_slots};
 ghost use Rattle.spur_swap.specs.Told.{HaveSlots, IsTold, told_with};
 
 use crate::backing::{Backing, PrepareFault};
 use crate::pages::Pages;
-use crate::script::Script;
-use spur_io::Failed;
+use spur_io::{Failed, Script};
 use std::alloc::Global;
 use std::marker::Model;
 
