@@ -1,5 +1,5 @@
--- The calls of an object in memory, some of which are to fail.
-use Rattle.std.specs.Prelude.{ℕ, ◌+◌, ◌-◌, ◌^◌, ◌==◌, Bool, ◌&&◌, min, nat_lt, List}
+-- Calls of one kind, some of which are to fail.
+use Rattle.std.specs.Prelude.{ℕ, ◌+◌, ◌-◌, ◌^◌, ◌==◌, Bool, ◌&&◌, min, nat_lt, List, if◌then◌else◌}
 use Rattle.std.specs.List.{list_any}
 
 -- the numbers of the calls that are to fail, how many calls there were, and how many of them failed
@@ -19,3 +19,7 @@ after_call c = record c { made = min (c.made + 1) (2 ^ 32 - 1) }
 -- after a call that failed
 abbrev pub after_fault : Calls → Calls
 after_fault c = record (after_call c) { faults = c.faults + 1 }
+
+-- after the next call, which fails where its number says so
+abbrev pub after_next : Calls → Calls
+after_next c = if fails_next c then after_fault c else after_call c

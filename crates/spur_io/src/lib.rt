@@ -14,6 +14,7 @@ mod whole;
 
 pub use adapters::{SinkStd, SourceStd};
 pub use memory::{SinkMemory, SourceMemory};
+pub use script::Script;
 pub use stream::{Failed, Sink, Source};
 pub use sure::{SinkSure, SourceSure};
 pub use whole::{PutAll, ReadAll, put_all, read_all};

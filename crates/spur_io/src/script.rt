@@ -1,14 +1,14 @@
-//! Which calls of an object in memory fail.
-ghost use Rattle.std.specs.Prelude.{◌≡◌, ◌<◌, ◌^◌, is_err, OnErr, OnOk};
-ghost use Rattle.spur_io.specs.Calls.{after_call, after_fault, fails_next};
+//! Calls that are counted, and that fail as a list says.
+ghost use Rattle.std.specs.Prelude.{◌≡◌, ◌<◌, ◌^◌, is_err};
+ghost use Rattle.spur_io.specs.Calls.{after_next, fails_next};
 
 use crate::stream::Failed;
 use std::marker::Model;
 
-/// The calls of an object in memory: those that are to fail, and how many there were. Contracts see
-/// a record of `specs/Calls.antt`.
+/// The calls of one kind: those that are to fail, how many there were, and how many of them failed. Objects for tests
+/// of faults stand over it. Contracts see a record of `specs/Calls.antt`.
 #[derive(Drop)]
-pub(crate) struct Script {
+pub struct Script {
     fail: Vec<u32>,
     made: u32,
     faults: u32,
@@ -27,7 +27,8 @@ impl Model for Script {
 
 impl Script {
     /// No call was made, and the calls whose numbers, counted from 1, stand in `fail` are to fail.
-    pub(crate) fn new(fail: Vec<u32>) -> Script
+    /// Takes no memory.
+    pub fn new(fail: Vec<u32>) -> Script
         ensures { result ≡ record { fail = fail.items; made = 0; faults = 0 } }
     {
         Script {
@@ -37,12 +38,18 @@ impl Script {
         }
     }
 
+    /// How many calls there were, at most 2^32 - 1.
+    pub fn made(&self) -> u32
+        ensures { result ≡ self.now.made }
+    {
+        self.made
+    }
+
     /// Counts a call. `Failed` is the answer exactly where it is one that is to fail, and the fault
     /// is counted too. The count of calls stays at 2^32 - 1, and calls past that do not fail.
-    pub(crate) fn count_call(&mut self) -> Result<(), Failed>
+    pub fn count_call(&mut self) -> Result<(), Failed>
         ensures failed { is_err result ≡ fails_next self.old }
-        ensures passed { OnOk result (self.new ≡ after_call self.old) }
-        ensures fault { OnErr result (self.new ≡ after_fault self.old) }
+        ensures calls { self.new ≡ after_next self.old }
         ensures few { self.new.faults < 2 ^ 32 }
     {
         if self.made == u32::MAX {

@@ -1,3 +1,2 @@
 pub mod Memory
 pub mod Blocks
-pub mod Pages

@@ -1,22 +1,14 @@
 //! Words of memory in frames.
 
 ghost use Rattle.std.specs.Prelude.{◌≡◌, ◌+◌, ◌*◌, ◌/◌, ◌<◌, ◌≤◌, IfOk, length, replicate, slice_index, slice_set};
+ghost use Rattle.spur_addr.specs.Pages.{page_at, with_page};
+ghost use Rattle.spur_list.specs.Parts.{with_part};
 ghost use Rattle.spur_phys.specs.Blocks.{block_at, block_place, with_block};
 ghost use Rattle.spur_phys.specs.Memory.{IsMemory};
-ghost use Rattle.spur_phys.specs.Pages.{page_at, with_page};
 
-use spur_addr::GlobalAddr;
+use spur_addr::{BLOCK_WORDS, GlobalAddr, PAGE_BLOCKS, PAGE_WORDS};
 use std::alloc::{AllocError, Global};
 use std::marker::Model;
-
-/// The words of a frame, and so of a page.
-const FRAME_WORDS: usize = 1024;
-
-/// The words of a block.
-const BLOCK_WORDS: usize = 8;
-
-/// The blocks of a frame.
-const FRAME_BLOCKS: u64 = 128;
 
 /// A physical memory of 1 to 4096 frames.
 ///
@@ -47,7 +39,7 @@ impl Phys {
         requires few_frames { frames ≤ 4096 }
         ensures { IfOk result (λ phys. phys ≡ replicate (1024 * frames) 0) }
     {
-        let words = vec![in alloc; 0u32; frames as usize * FRAME_WORDS]?;
+        let words = vec![in alloc; 0u32; frames as usize * PAGE_WORDS]?;
         Ok(Phys { words })
     }
 
@@ -57,7 +49,7 @@ impl Phys {
         ensures whole { 1024 * result ≡ length self.now }
         ensures memory { IsMemory self.now }
     {
-        (self.words.len() / FRAME_WORDS) as u32
+        (self.words.len() / PAGE_WORDS) as u32
     }
 
     /// The word with this number.
@@ -98,18 +90,18 @@ impl Phys {
     /// Copies the words of a frame into `into`.
     pub fn read_page(&self, frame: u32, into: &mut [u32; 1024])
         requires { frame * 1024 + 1024 ≤ length self.now }
-        ensures { into.new ≡ page_at self.now (frame * 1024) }
+        ensures { into.new ≡ page_at self.now frame }
     {
-        let place = frame as usize * FRAME_WORDS;
-        into.copy_from_slice(&self.words[place..place + FRAME_WORDS]);
+        let place = frame as usize * PAGE_WORDS;
+        into.copy_from_slice(&self.words[place..place + PAGE_WORDS]);
     }
 
     /// Makes the words of a frame those of `from`, and leaves all others.
     pub fn write_page(&mut self, frame: u32, from: &[u32; 1024])
         requires { frame * 1024 + 1024 ≤ length self.old }
-        ensures { self.new ≡ with_page self.old (frame * 1024) from.now }
+        ensures { self.new ≡ with_page self.old frame from.now }
     {
-        put_page(&mut self.words, frame as usize * FRAME_WORDS, from);
+        put_page(&mut self.words, frame as usize * PAGE_WORDS, from);
     }
 
     /// The words of all frames, moved and not copied.
@@ -125,7 +117,7 @@ fn block_start(frame: u32, at: GlobalAddr) -> usize
     ensures value { result ≡ block_place frame at }
     ensures within { result + 8 ≤ frame * 1024 + 1024 }
 {
-    frame as usize * FRAME_WORDS + (at.block() % FRAME_BLOCKS) as usize * BLOCK_WORDS
+    frame as usize * PAGE_WORDS + (at.block() % PAGE_BLOCKS as u64) as usize * BLOCK_WORDS
 }
 
 /// Puts the words of a block into memory from word `place` on.
@@ -141,9 +133,9 @@ fn put_block(memory: &mut [u32], place: usize, words: &[u32; 8])
 /// Puts the words of a page into memory from word `place` on.
 fn put_page(memory: &mut [u32], place: usize, words: &[u32; 1024])
     requires { place + 1024 ≤ length memory.old }
-    ensures { memory.new ≡ with_page memory.old place words.now }
+    ensures { memory.new ≡ with_part memory.old place words.now 1024 }
 {
-    memory[place..place + FRAME_WORDS].copy_from_slice(words);
+    memory[place..place + PAGE_WORDS].copy_from_slice(words);
 }
 
 #[cfg(test)]

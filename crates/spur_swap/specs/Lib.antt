@@ -1,3 +1,4 @@
 pub mod Pages
 pub mod Told
+pub mod Meaning
 pub mod Kept

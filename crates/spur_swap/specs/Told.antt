@@ -1,7 +1,8 @@
 -- What is known of the pages of a swap object: `Some words` is told, `None` is not told.
 use Rattle.std.specs.Prelude.{ℕ, ◌≡◌, ◌+◌, ◌-◌, ◌*◌, ◌^◌, min, List, length, Some, None}
 use Rattle.std.specs.declared.option.Option.{Option}
-use Rattle.spur_swap.specs.Pages.{page_at, with_page, zero_pages}
+use Rattle.spur_addr.specs.Pages.{page_at, with_page}
+use Rattle.spur_swap.specs.Pages.{zero_pages}
 
 -- told pages have 1024 words a slot
 abbrev pub HaveSlots : Option (List ℕ) → ℕ → Type 0
@@ -23,6 +24,6 @@ abbrev pub told_with : Option (List ℕ) → ℕ → List ℕ → Option (List �
 told_with None slot page = None
 told_with (Some words) slot page = Some (with_page words slot page)
 
--- the number of reads after one more: 2^32 - 1 is its last value, where it stays
-abbrev pub one_read_more : ℕ → ℕ
-one_read_more reads = min (reads + 1) (2 ^ 32 - 1)
+-- the number of calls of a kind after one more: 2^32 - 1 is its last value, where it stays
+abbrev pub one_call_more : ℕ → ℕ
+one_call_more calls = min (calls + 1) (2 ^ 32 - 1)

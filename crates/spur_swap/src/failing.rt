@@ -1,14 +1,13 @@
 //! A swap object in memory whose reads and writes fail as two lists say.
-ghost use Rattle.std.specs.Prelude.{◌≡◌, ◌<◌, ◌≤◌, Err, OnErr, OnOk, Some, [], is_err};
-ghost use Rattle.spur_io.specs.Calls.{fails_next};
-ghost use Rattle.spur_swap.specs.Kept.{after_next, faults_of};
-ghost use Rattle.spur_swap.specs.Pages.{slots_of};
-ghost use Rattle.spur_swap.specs.Told.{HaveSlots, IsTold, one_read_more, told_with, told_zeros};
+ghost use Rattle.std.specs.Prelude.{◌≡◌, ◌<◌, ◌≤◌, Err, OnErr, OnOk, [], is_err};
+ghost use Rattle.spur_io.specs.Calls.{after_next, fails_next};
+ghost use Rattle.spur_swap.specs.Kept.{as_swap};
+ghost use Rattle.spur_swap.specs.Meaning.{SameButFaults, after_read, after_write, with_slots};
+ghost use Rattle.spur_swap.specs.Told.{HaveSlots, IsTold, told_with};
 
 use crate::backing::{Backing, PrepareFault};
 use crate::pages::Pages;
-use crate::script::Script;
-use spur_io::Failed;
+use spur_io::{Failed, Script};
 use std::alloc::Global;
 use std::marker::Model;
 
@@ -64,25 +63,16 @@ impl SwapTest {
 }
 
 impl Backing for SwapTest {
-    ghost pages = { λ s. Some s.words };
-
-    ghost slot_count = { λ s. slots_of s.words };
-
-    ghost faults = { λ s. faults_of s };
-
-    ghost reads = { λ s. s.reads.made };
+    ghost meaning = { as_swap };
 
     /// Is refused only for want of memory for the pages. It is counted neither as a read nor as a
     /// write.
     fn prepare(&mut self, slots: u32) -> Result<(), PrepareFault>
-        ensures count { OnOk result (slots_of self.new.words ≡ slots) }
-        ensures zeros { OnOk result (Some self.new.words ≡ told_zeros (Some self.old.words) slots) }
-        ensures slots_stay { OnErr result (slots_of self.new.words ≡ slots_of self.old.words) }
-        ensures pages_stay { OnErr result (Some self.new.words ≡ Some self.old.words) }
-        ensures whole { HaveSlots (Some self.new.words) (slots_of self.new.words) }
-        ensures unread { self.new.reads.made ≡ self.old.reads.made }
-        ensures later { faults_of self.old ≤ faults_of self.new }
-        ensures cause { result ≡ Err PrepareFault.Failed → faults_of self.old < faults_of self.new }
+        ensures zeros { OnOk result (SameButFaults (with_slots (as_swap self.old) slots) (as_swap self.new)) }
+        ensures stays { OnErr result (SameButFaults (as_swap self.old) (as_swap self.new)) }
+        ensures whole { HaveSlots (as_swap self.new).pages (as_swap self.new).slots }
+        ensures later { (as_swap self.old).faults ≤ (as_swap self.new).faults }
+        ensures cause { result ≡ Err PrepareFault.Failed → (as_swap self.old).faults < (as_swap self.new).faults }
 
         ensures reads { self.new.reads ≡ self.old.reads }
         ensures writes { self.new.writes ≡ self.old.writes }
@@ -94,14 +84,12 @@ impl Backing for SwapTest {
     /// Fails exactly where this read is to fail, and the fault is counted then. Reads past the
     /// number 2^32 - 1 do not fail. `into` stays where it fails. Takes no memory.
     fn read_page(&mut self, slot: u32, into: &mut [u32; 1024]) -> Result<(), Failed>
-        requires { slot < slots_of self.old.words }
-        ensures page { OnOk result (IsTold (Some self.old.words) slot into.new) }
-        ensures pages_stay { Some self.new.words ≡ Some self.old.words }
-        ensures slots_stay { slots_of self.new.words ≡ slots_of self.old.words }
-        ensures whole { HaveSlots (Some self.new.words) (slots_of self.new.words) }
-        ensures counted { self.new.reads.made ≡ one_read_more self.old.reads.made }
-        ensures later { faults_of self.old ≤ faults_of self.new }
-        ensures cause { OnErr result (faults_of self.old < faults_of self.new) }
+        requires { slot < (as_swap self.old).slots }
+        ensures page { OnOk result (IsTold (as_swap self.old).pages slot into.new) }
+        ensures stays { SameButFaults (after_read (as_swap self.old)) (as_swap self.new) }
+        ensures whole { HaveSlots (as_swap self.new).pages (as_swap self.new).slots }
+        ensures later { (as_swap self.old).faults ≤ (as_swap self.new).faults }
+        ensures cause { OnErr result ((as_swap self.old).faults < (as_swap self.new).faults) }
         ensures into_stays { OnErr result (into.new ≡ into.old) }
 
         ensures failed { is_err result ≡ fails_next self.old.reads }
@@ -116,14 +104,13 @@ impl Backing for SwapTest {
     /// Fails exactly where this write is to fail, and the fault is counted then. Writes past the
     /// number 2^32 - 1 do not fail. Takes no memory.
     fn write_page(&mut self, slot: u32, from: &[u32; 1024]) -> Result<(), Failed>
-        requires { slot < slots_of self.old.words }
-        ensures put { OnOk result (Some self.new.words ≡ told_with (Some self.old.words) slot from.now) }
-        ensures pages_stay { OnErr result (Some self.new.words ≡ Some self.old.words) }
-        ensures slots_stay { slots_of self.new.words ≡ slots_of self.old.words }
-        ensures whole { HaveSlots (Some self.new.words) (slots_of self.new.words) }
-        ensures unread { self.new.reads.made ≡ self.old.reads.made }
-        ensures later { faults_of self.old ≤ faults_of self.new }
-        ensures cause { OnErr result (faults_of self.old < faults_of self.new) }
+        requires { slot < (as_swap self.old).slots }
+        ensures put { OnOk result ((as_swap self.new).pages ≡ told_with (as_swap self.old).pages slot from.now) }
+        ensures pages_stay { OnErr result ((as_swap self.new).pages ≡ (as_swap self.old).pages) }
+        ensures stays { SameButFaults (after_write (as_swap self.old) (as_swap self.new).pages) (as_swap self.new) }
+        ensures whole { HaveSlots (as_swap self.new).pages (as_swap self.new).slots }
+        ensures later { (as_swap self.old).faults ≤ (as_swap self.new).faults }
+        ensures cause { OnErr result ((as_swap self.old).faults < (as_swap self.new).faults) }
 
         ensures failed { is_err result ≡ fails_next self.old.writes }
         ensures writes { self.new.writes ≡ after_next self.old.writes }

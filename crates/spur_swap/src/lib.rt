@@ -10,7 +10,6 @@ mod backing;
 mod failing;
 mod memory;
 mod pages;
-mod script;
 
 pub use backing::{Backing, PrepareFault};
 pub use failing::SwapTest;

@@ -1,6 +1,6 @@
 //! A swap object in memory that never fails.
-ghost use Rattle.std.specs.Prelude.{◌≡◌, Some, []};
-ghost use Rattle.spur_swap.specs.Pages.{slots_of};
+ghost use Rattle.std.specs.Prelude.{◌≡◌, []};
+ghost use Rattle.spur_swap.specs.Kept.{kept_swap};
 
 use crate::backing::{Backing, PrepareFault};
 use crate::pages::Pages;
@@ -15,6 +15,7 @@ use std::marker::Model;
 pub struct SwapMemory {
     pages: Pages,
     reads: u32,
+    writes: u32,
 }
 
 impl Model for SwapMemory {
@@ -22,29 +23,24 @@ impl Model for SwapMemory {
 
     ghost Value = { Kept };
 
-    ghost view = { λ s. record { words = s.pages; reads = s.reads } };
+    ghost view = { λ s. record { words = s.pages; reads = s.reads; writes = s.writes } };
 }
 
 impl SwapMemory {
-    /// No slots, and no read so far. Takes no memory yet.
+    /// No slots, and neither a read nor a write so far. Takes no memory yet.
     pub fn new(alloc: Global) -> SwapMemory
-        ensures { result ≡ record { words = []; reads = 0 } }
+        ensures { result ≡ record { words = []; reads = 0; writes = 0 } }
     {
         SwapMemory {
             pages: Pages::new(alloc),
             reads: 0,
+            writes: 0,
         }
     }
 }
 
 impl Backing for SwapMemory {
-    ghost pages = { λ s. Some s.words };
-
-    ghost slot_count = { λ s. slots_of s.words };
-
-    ghost faults = { λ s. 0 };
-
-    ghost reads = { λ s. s.reads };
+    ghost meaning = { kept_swap };
 
     /// Is refused only for want of memory for the pages.
     fn prepare(&mut self, slots: u32) -> Result<(), PrepareFault> {
@@ -61,6 +57,7 @@ impl Backing for SwapMemory {
 
     /// Never fails. Takes no memory.
     fn write_page(&mut self, slot: u32, from: &[u32; 1024]) -> Result<(), Failed> {
+        self.writes = self.writes.saturating_add(1);
         self.pages.write(slot, from);
         Ok(())
     }

@@ -1,13 +1,12 @@
 //! Pages in memory.
 ghost use Rattle.std.specs.Prelude.{◌≡◌, ◌+◌, ◌<◌, ◌≤◌, OnErr, OnOk, [], length};
+ghost use Rattle.spur_addr.specs.Pages.{page_at, with_page};
 ghost use Rattle.spur_list.specs.Parts.{with_part};
-ghost use Rattle.spur_swap.specs.Pages.{ArePages, page_at, slots_of, with_page, zero_pages};
+ghost use Rattle.spur_swap.specs.Pages.{ArePages, slots_of, zero_pages};
 
+use spur_addr::PAGE_WORDS;
 use std::alloc::{AllocError, Global};
 use std::marker::Model;
-
-/// The words of a page.
-const PAGE_WORDS: usize = 1024;
 
 /// The pages of all slots. Contracts see the list of their words.
 #[derive(Drop)]

@@ -1,5 +1,6 @@
 //! Pages that are written and read, and calls that fail, on each kind of swap object.
 ghost use Rattle.std.specs.Prelude.{◌≡◌, ◌<◌, ◌≤◌, None, true};
+ghost use Rattle.spur_swap.specs.Told.{one_call_more};
 
 use super::*;
 use spur_io::Failed;
@@ -45,8 +46,8 @@ fn read(slot: u32, word: u32, passes: bool) -> Call {
 
 /// Makes a call, and answers whether it passes or fails as it is to, and a read finds its page.
 fn is_as_told<B: Backing>(swap: &mut B, call: Call) -> bool
-    requires { B.slot_count swap.old ≡ 3 }
-    ensures { B.slot_count swap.new ≡ 3 }
+    requires { (B.meaning swap.old).slots ≡ 3 }
+    ensures { (B.meaning swap.new).slots ≡ 3 }
 {
     if call.slot >= SLOTS {
         return false;
@@ -63,8 +64,8 @@ fn is_as_told<B: Backing>(swap: &mut B, call: Call) -> bool
 
 /// The place of the first call that is not as it is to be.
 fn first_wrong<B: Backing>(swap: &mut B, calls: &[Call]) -> Option<usize>
-    requires { B.slot_count swap.old ≡ 3 }
-    ensures { B.slot_count swap.new ≡ 3 }
+    requires { (B.meaning swap.old).slots ≡ 3 }
+    ensures { (B.meaning swap.new).slots ≡ 3 }
 {
     for (i, call) in calls.iter().enumerate() {
         if !is_as_told(swap, *call) {
@@ -141,12 +142,43 @@ fn a_call_that_fails_leaves_the_pages(rt: HostRuntime) -> Result<(), Fail> {
     Ok(())
 }
 
+/// Writes a page twice. Both writes are counted, on each kind of object, whether they fail or not.
+fn write_twice<B: Backing>(swap: &mut B, slot: u32) -> (bool, bool)
+    requires { slot < (B.meaning swap.old).slots }
+    ensures writes { (B.meaning swap.new).writes ≡ one_call_more (one_call_more (B.meaning swap.old).writes) }
+    ensures reads { (B.meaning swap.new).reads ≡ (B.meaning swap.old).reads }
+    ensures slots { (B.meaning swap.new).slots ≡ (B.meaning swap.old).slots }
+{
+    let first = swap.write_page(slot, &page(7)).is_ok();
+    let then = swap.write_page(slot, &page(8)).is_ok();
+    (first, then)
+}
+
+#[test]
+fn a_write_that_fails_is_counted_too(rt: HostRuntime) -> Result<(), Fail> {
+    let fail_writes = vec![in rt.alloc(); 2, 3]?;
+    let mut tested = SwapTest::new(rt.alloc(), Vec::new(rt.alloc()), fail_writes);
+    tested.prepare(SLOTS)?;
+    assert_eq!(rt; write_twice(&mut tested, 1), (true, false));
+    assert_eq!(rt; tested.writes(), 2);
+    assert_eq!(rt; write_twice(&mut tested, 0), (false, true));
+    assert_eq!(rt; tested.writes(), 4);
+    assert_eq!(rt; tested.reads(), 0);
+    assert_eq!(rt;
+        first_wrong(&mut tested, &[read(0, 8, true), read(1, 7, true)]),
+        None
+    );
+    assert_eq!(rt; tested.writes(), 4);
+    Ok(())
+}
+
 /// Slots of which only the number is kept: a write is forgotten, each page is read as that of 9, and
 /// every second call fails, `prepare` too.
 #[derive(Drop)]
 struct Forgetful {
     slots: u32,
     reads: u32,
+    writes: u32,
     calls: u32,
     faults: u32,
 }
@@ -156,6 +188,7 @@ impl Forgetful {
     fn fails(&mut self) -> bool
         ensures slots { self.new.slots ≡ self.old.slots }
         ensures reads { self.new.reads ≡ self.old.reads }
+        ensures writes { self.new.writes ≡ self.old.writes }
         ensures later { self.old.faults ≤ self.new.faults }
         ensures cause { result ≡ true → self.old.faults < self.new.faults }
     {
@@ -169,13 +202,13 @@ impl Forgetful {
 }
 
 impl Backing for Forgetful {
-    ghost pages = { λ s. None };
-
-    ghost slot_count = { λ s. s.slots };
-
-    ghost faults = { λ s. s.faults };
-
-    ghost reads = { λ s. s.reads };
+    ghost meaning = { λ s. record {
+      pages = None;
+      slots = s.slots;
+      faults = s.faults;
+      reads = s.reads;
+      writes = s.writes;
+    } };
 
     fn prepare(&mut self, slots: u32) -> Result<(), PrepareFault> {
         if self.fails() {
@@ -195,6 +228,7 @@ impl Backing for Forgetful {
     }
 
     fn write_page(&mut self, _slot: u32, _from: &[u32; 1024]) -> Result<(), Failed> {
+        self.writes = self.writes.saturating_add(1);
         if self.fails() {
             return Err(Failed);
         }
@@ -207,6 +241,7 @@ fn an_object_need_not_tell_its_pages(rt: HostRuntime) -> Result<(), Fail> {
     let mut swap = Forgetful {
         slots: 0,
         reads: 0,
+        writes: 0,
         calls: 0,
         faults: 0,
     };
@@ -221,6 +256,7 @@ fn an_object_need_not_tell_its_pages(rt: HostRuntime) -> Result<(), Fail> {
     assert_eq!(rt; swap.prepare(SLOTS), Err(PrepareFault::Failed));
     assert_eq!(rt; first_wrong(&mut swap, &[read(2, 9, true)]), None);
     assert_eq!(rt; swap.reads, 3);
+    assert_eq!(rt; swap.writes, 2);
     assert_eq!(rt; swap.faults, 3);
     Ok(())
 }

@@ -3,4 +3,4 @@ use Rattle.spur_swap.proofs.tests.first_wrong.Given as goal
 
 -- there are still so many slots
 abbrev pub invariant-loop-i : goal.invariant-loop-i
-invariant-loop-i g l = g.B.Backing.slot_count l.swap ≡ 3
+invariant-loop-i g l = (g.B.Backing.meaning l.swap).slots ≡ 3

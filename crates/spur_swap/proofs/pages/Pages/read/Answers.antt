@@ -1,5 +1,5 @@
 use Rattle.std.proofs.Common.{◌≡◌, ◌∙◌, ℕ, ◌+◌, ◌-◌, ◌*◌, ap, arith, List, take, drop}
-use Rattle.spur_swap.specs.Pages.{page_at}
+use Rattle.spur_addr.specs.Pages.{page_at}
 use Rattle.spur_swap.proofs.pages.Pages.read.Goals as goal
 
 pub returns-clause-page : goal.returns-clause-page
