@@ -14,7 +14,8 @@ use Rattle.spur_addr.proofs.EntryFacts.{is_leaving-swapped, is_on_swap-resident,
 use Rattle.spur_flat.specs.declared.flat.Flat.{Flat}
 use Rattle.spur_flat.specs.Table.{entry_at, table_words}
 use Rattle.spur_flat.specs.Validity.{AreTables, IsDataFrame, IsDeclared, IsValidFlat, StandsFor}
-use Rattle.spur_flat.specs.Pager.{come_in, entry_place, gone_out, has_frame, is_declared, is_free_frame, loaded, or_zero, page_at, position_in, slot_of, with_entry, with_entry_bit, with_page, word_of}
+use Rattle.spur_flat.specs.Pager.{come_in, entry_place, gone_out, has_frame, is_declared, is_free_frame, loaded, or_zero, position_in, slot_of, with_entry, with_entry_bit, word_of}
+use Rattle.spur_addr.specs.Pages.{page_at, with_page}
 use Rattle.spur_flat.proofs.TableFacts.{MayStand, place_at, place_bounds, some_same, tables-set}
 use Rattle.spur_flat.proofs.WalkFacts.{entry_at-same, tables-same, walk_of-entry}
 

@@ -26,7 +26,8 @@ use Rattle.spur_flat.specs.declared.entry.Entry.TheVariants.{Load, Store, Tas, F
 use Rattle.spur_flat.specs.Access.{may}
 use Rattle.spur_flat.specs.Table.{table_words, walk_of, place_in, place_of}
 use Rattle.spur_flat.specs.Validity.{IsDataFrame, IsValidFlat}
-use Rattle.spur_flat.specs.Pager.{word_of, is_declared, has_frame, is_free_frame, MayPage, may_come_in, may_go_out, entry_place, position_in, slot_of, page_at, with_page, with_entry, with_entry_bit, saved, gone_out, loaded, come_in}
+use Rattle.spur_flat.specs.Pager.{word_of, is_declared, has_frame, is_free_frame, MayPage, may_come_in, may_go_out, entry_place, position_in, slot_of, with_entry, with_entry_bit, saved, gone_out, loaded, come_in}
+use Rattle.spur_addr.specs.Pages.{page_at, with_page}
 use Rattle.spur_flat.specs.Pager as pager
 use Rattle.spur_flat.specs.History.{on, with_word}
 use Rattle.spur_flat.specs.Laws.{address_of}

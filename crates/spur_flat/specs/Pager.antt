@@ -5,7 +5,7 @@ use Rattle.spur_addr.specs.Address.{page_of}
 use Rattle.spur_addr.specs.PageEntry.{is_valid, is_referenced, is_dirty, is_on_swap, is_leaving, protection_of, number_of, with_bit, resident_of, swapped_of}
 use Rattle.spur_addr.specs.declared.page_entry.Protection.{Protection}
 use Rattle.spur_addr.specs.declared.page_entry.Protection.TheVariants.{Nothing, ReadOnly, ReadWrite}
-use Rattle.spur_list.specs.Parts.{part_at, with_part}
+use Rattle.spur_addr.specs.Pages.{page_at, with_page}
 use Rattle.spur_flat.specs.declared.flat.Flat.{Flat}
 use Rattle.spur_flat.specs.declared.illegal.Clause.TheVariants as clause
 use Rattle.spur_flat.specs.declared.illegal.Illegal.{Illegal}
@@ -92,13 +92,6 @@ position_in (p ∷ ps) page = if p == page then 0 else 1 + position_in ps page
 
 abbrev pub slot_of : Flat → ℕ → ℕ
 slot_of F g = position_in F.pages (page_of g)
-
--- the words of a frame or of a swap slot, by its number
-abbrev pub page_at : List ℕ → ℕ → List ℕ
-page_at words number = part_at words (number * 1024) 1024
-
-abbrev pub with_page : List ℕ → ℕ → List ℕ → List ℕ
-with_page words number page = with_part words (number * 1024) page 1024
 
 -- the words of the page's frame in the page's slot, where the page was written
 abbrev pub saved : Flat → ℕ → ℕ → Flat

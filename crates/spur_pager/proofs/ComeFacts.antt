@@ -7,7 +7,8 @@ use Rattle.spur_addr.specs.PageEntry.{is_valid, number_of, protection_of, reside
 use Rattle.spur_flat.specs.declared.flat.Flat.{Flat}
 use Rattle.spur_flat.specs.declared.entry.Entry.{Entry}
 use Rattle.spur_flat.specs.declared.entry.Entry.TheVariants.{PageIn}
-use Rattle.spur_flat.specs.Pager.{come_in, entry_place, page_at, position_in, slot_of, with_page, word_of}
+use Rattle.spur_flat.specs.Pager.{come_in, entry_place, position_in, slot_of, word_of}
+use Rattle.spur_addr.specs.Pages.{page_at, with_page}
 use Rattle.spur_flat.specs.Table.{table_words}
 use Rattle.spur_flat.specs.Untold.{IsLike}
 use Rattle.spur_flat.proofs.LikeFacts.{word_same}
@@ -176,7 +177,7 @@ module _ (w : View) (b frame page slot : ℕ) (may : MayComeIn w b frame page sl
       length-logical w.caches now ∙ size rest st ∙ sym (length-logical w.caches w.memory) in
       in_may b g frame from (unheld rest st) (spare_same (flat_in w) (logical_flat w.caches now) frame (same rest st) longer (spare_in rest st))
 
-  module _ (v : View) (some : Flat) (stood : Stands some w) (frames : v.frames ≡ take_frame w.frames frame page slot) (table : AreFrames w.frames) (pages : v.pages ≡ w.pages) (slots : v.slots ≡ w.slots) (told : IsTold w.pages slot words)
+  module _ (v : View) (some : Flat) (stood : Stands some w) (frames : v.frames ≡ take_frame w.frames frame page slot) (table : AreFrames w.frames) (pages : v.pages ≡ w.pages) (slots : v.slots ≡ w.slots) (ahead : v.ahead ≡ w.ahead) (told : IsTold w.pages slot words)
       (c : Changes b (page_address page) (In frame) (loaded_hold frame words (hold_of w)) (past_of w) (hold_of v) (past_of v)) where
     abbrev pub e : Entry
     e = PageIn b g frame
@@ -255,6 +256,7 @@ module _ (w : View) (b frame page slot : ℕ) (may : MayComeIn w b frame page sl
       clean = λ (rest : Flat) (ws : List ℕ) (st : Stands rest w) (is : v.pages ≡ Some ws).
           subst AreClean (sym (flat_is rest st)) (clean_taken (standing_flat rest w) w.frames frame page words long (may_take rest st) (words_are rest ws st (sym pages ∙ is)) (st.clean ws (sym pages ∙ is)));
       slots = slots;
+      ahead = ahead;
       tells = ap tells pages;
     }
 

@@ -48,6 +48,7 @@ pub record IsDropped (holder g : ℕ) (w v : View) (e : Entry) : Type 0 where
   pub frames : v.frames ≡ w.frames
   pub pages : v.pages ≡ w.pages
   pub slots : v.slots ≡ w.slots
+  pub ahead : v.ahead ≡ w.ahead
 
 module _ (b holder g : ℕ) (w v : View) (own : b < length w.caches) (within : holder < length w.caches) (there : HasLine w.caches holder g is_alive) (leaving : IsLeavingBlock w g) (d : IsDropped holder g w v (BlockFlush b holder (block_start_of g))) where
   made : IsMade b (length w.caches) (BlockFlush b holder (block_start_of g))
@@ -57,7 +58,7 @@ module _ (b holder g : ℕ) (w v : View) (own : b < length w.caches) (within : h
   boards = ap (λ (cs : List (List (Option Line))). length cs) d.caches ∙ length-each (dropped_lines holder g) 0 w.caches
 
   keeps : Keeps w v
-  keeps = record { boards = boards; lines = d.lines; memory = d.size; slots = d.slots; tells = ap served.tells d.pages }
+  keeps = record { boards = boards; lines = d.lines; memory = d.size; slots = d.slots; tells = ap served.tells d.pages; ahead = d.ahead }
 
   flat_same : (rest : Flat) → standing_flat rest v ≡ standing_flat rest w
   flat_same rest =

@@ -8,7 +8,8 @@ use Rattle.std.proofs.lemmas.Nat.{shr-shr}
 use Rattle.spur_addr.specs.Address.{page_of, table_start}
 use Rattle.spur_addr.specs.PageEntry.{is_dirty, is_leaving, is_on_swap, is_valid, number_of}
 use Rattle.spur_flat.specs.declared.flat.Flat.{Flat}
-use Rattle.spur_flat.specs.Pager.{entry_place, is_declared, page_at, position_in, word_of}
+use Rattle.spur_flat.specs.Pager.{entry_place, is_declared, position_in, word_of}
+use Rattle.spur_addr.specs.Pages.{page_at}
 use Rattle.spur_flat.specs.Validity.{IsDataFrame, IsDeclared, IsValidFlat}
 use Rattle.spur_flat.proofs.PagerFacts.{declared_stands, frame_of}
 use Rattle.spur_flat.proofs.TableFacts.{place_bounds}

@@ -56,8 +56,9 @@ same_state rest w v same =
     ∙ ap (λ (m : List ℕ). state_of (with_told rest w.pages) w.caches m (replicate (length w.caches) [])) same.memory
 
 -- a state stands by what is seen but for these
-stands_so : (rest : Flat) (w : View) (faults reads room : ℕ) (history : List Entry) → Stands rest w → Stands rest (record w { faults = faults; reads = reads; room = room; history = history })
-stands_so rest w faults reads room history st = record { walk = st.walk; valid = st.valid; present = st.present; framed = st.framed; slots = st.slots; clean = st.clean }
+stands_so : (rest : Flat) (w : View) (faults reads writes room ahead : ℕ) (history : List Entry) → Stands rest w
+    → Stands rest (record w { faults = faults; reads = reads; writes = writes; room = room; history = history; ahead = ahead })
+stands_so rest w faults reads writes room ahead history st = record { walk = st.walk; valid = st.valid; present = st.present; framed = st.framed; slots = st.slots; clean = st.clean }
 
 still_stands : (rest : Flat) (w v : View) → HasSwapFailed w v → Stands rest w → Stands rest v
 still_stands rest w v same st =
@@ -66,7 +67,7 @@ still_stands rest w v same st =
     (subst (λ (fs : Frames). Stands rest (record v { caches = w.caches; memory = w.memory; frames = fs })) (sym same.frames)
     (subst (λ (p : Option (List ℕ)). Stands rest (record v { caches = w.caches; memory = w.memory; frames = w.frames; pages = p })) (sym same.pages)
     (subst (λ (n : ℕ). Stands rest (record v { caches = w.caches; memory = w.memory; frames = w.frames; pages = w.pages; slots = n })) (sym same.slots)
-    (stands_so rest w v.faults v.reads v.room v.history st)))))
+    (stands_so rest w v.faults v.reads v.writes v.room v.ahead v.history st)))))
 
 -- after a fault of the swap no act was done
 pub failed_runs : (b : ℕ) (w v : View) → HasSwapFailed w v → Runs b [] w v
@@ -80,6 +81,7 @@ failed_runs b w v same =
       memory = ap (λ (m : List ℕ). length m) same.memory;
       slots = same.slots;
       tells = ap tells same.pages;
+      ahead = same.ahead;
     })
     (λ (rest : Flat) (st : Stands rest w). record { carried = carried_none rest w v (same_state rest w v same); stands = still_stands rest w v same st })
 
@@ -177,6 +179,7 @@ was_leaving b w frame is taken = record {
   taken = taken;
   room = at_least w.room (clock_room w w.frames.leaving);
   absent = λ (page : ℕ) (small : page < user_pages) (absent : is_valid (entry_in w page) ≡ false). refl;
+  dirty = λ (page : ℕ) (small : page < user_pages). refl;
   lines = λ (page : ℕ) (small : page < user_pages). same_least (lines_of w.caches page);
 }
   where
@@ -193,6 +196,7 @@ is_leaving_now b w v frame none c is taken = record {
   taken = taken;
   room = subst (λ (o : Option ℕ). w.room ≤ v.room + clock_room w o) (sym none) c.room;
   absent = c.absent;
+  dirty = c.dirty;
   lines = c.lines;
 }
 
@@ -368,6 +372,28 @@ not_freed b w u v leaving s full l faults f = record {
   where
     sum : (c m n x y z : ℕ) → x ≤ y + c → y ≤ z + n → n ≤ m → x ≤ z + (c + (m + 5))
     sum c m n x y z first second fewer = omega arith
+
+-- the page of a frame goes out once its lines are flushed: it is written where it was dirty before
+pub counts_finish : (w u v : View) (b frame page slot : ℕ) → IsOfLeaving w frame page slot → FlushesPage b page w u → SameSwap w u → CountsOut page u v → CountsFinish frame w v
+counts_finish w u v b frame page slot l f same c =
+    counts_after w u v false (is_dirty (entry_in u page)) (is_dirty (entry_in w (page_in w.frames frame))) same
+    (ap (λ (e : ℕ). is_dirty e) (same_entries w u b page page f ∙ ap (entry_in w) (sym (ap page_held l.held)))) c
+
+-- and after the clock, which leaves each dirty bit as it is, the page that was to go out from the start
+pub counts_freeing : (b : ℕ) (w u v : View) (leaving : ℕ) → IsServable w → least_free w.frames ≡ None → HasLeaving b w u leaving → SameSwap w u → CountsFinish leaving u v → CountsFreeing w v
+counts_freeing b w u v leaving s full l same c =
+    let page : ℕ = page_in u.frames leaving in
+    counts_after w u v false (is_dirty (entry_in u page)) (writes_to_free w) same
+    (l.dirty page (leaving_small b w u leaving s l) ∙ ap (λ (p : ℕ). is_dirty (entry_in w p)) (same_page b w u leaving l)
+    ∙ sym (ap (λ (o : Option ℕ). is_none o && is_dirty (entry_in w (page_in w.frames (victim_of w)))) full)) c
+
+-- where a frame was free, the swap is not called
+pub counts_none : (w v : View) (frame : ℕ) → least_free w.frames ≡ Some frame → SameSwap w v → CountsFreeing w v
+counts_none w v frame is same = record {
+  reads = same.reads;
+  writes = same.writes ∙ sym (ap (λ (o : Option ℕ). count_if (is_none o && is_dirty (entry_in w (page_in w.frames (victim_of w)))) w.writes) is);
+  later = subst (λ (n : ℕ). w.faults ≤ n) (sym same.faults) (omega arith);
+}
 
 -- a page that was not written to goes out without the swap
 pub clean_still : {B : Type 0} (w u : View) (b frame page slot : ℕ) (old mid new : B) → IsOfLeaving w frame page slot → FlushesPage b page w u → mid ≡ old → (is_dirty (entry_in u page) ≡ false → new ≡ mid)

@@ -70,7 +70,7 @@ flushing_none b page w = record {
   caches = refl;
   memory = refl;
   logical = refl;
-  keeps = record { boards = refl; lines = refl; memory = refl; slots = refl; tells = refl };
+  keeps = record { boards = refl; lines = refl; memory = refl; slots = refl; tells = refl; ahead = refl };
   carries = λ (rest : Flat) (st : Stands rest w). record { carried = carried_none rest w w refl; stands = st };
 }
 

@@ -6,7 +6,8 @@ use Rattle.spur_addr.specs.PageEntry.{is_valid, number_of}
 use Rattle.spur_cache.specs.declared.line.Line.{Line}
 use Rattle.spur_flat.specs.declared.flat.Flat.{Flat}
 use Rattle.spur_flat.specs.Blocks.{root_word_of, wired_frame}
-use Rattle.spur_flat.specs.Pager.{page_at, word_of}
+use Rattle.spur_flat.specs.Pager.{word_of}
+use Rattle.spur_addr.specs.Pages.{page_at}
 use Rattle.spur_flat.proofs.PagerFacts.{page_long}
 use Rattle.spur_bus.specs.Boards.{line_in}
 use Rattle.spur_bus.specs.Logical.{logical_word, logical_words, word_or}

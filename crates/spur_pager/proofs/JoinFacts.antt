@@ -49,6 +49,7 @@ keeps_then w u v first second = record {
   memory = second.memory ∙ first.memory;
   slots = second.slots ∙ first.slots;
   tells = second.tells ∙ first.tells;
+  ahead = second.ahead ∙ first.ahead;
 }
 
 -- no entry: the same state stands

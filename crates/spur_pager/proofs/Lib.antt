@@ -1,5 +1,4 @@
 pub mod OptionFacts
-pub mod LensFacts
 pub mod OpenFacts
 pub mod UserFacts
 pub mod MadeFacts
@@ -17,6 +16,7 @@ pub mod PastFacts
 pub mod RunFacts
 pub mod FaultFacts
 pub mod JoinFacts
+pub mod CountFacts
 pub mod LookFacts
 pub mod TurnFacts
 pub mod DropFacts

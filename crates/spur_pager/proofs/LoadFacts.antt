@@ -7,7 +7,8 @@ use Rattle.spur_addr.specs.PageEntry.{is_dirty, is_valid, number_of, protection_
 use Rattle.spur_cache.specs.declared.line.Line.{Line}
 use Rattle.spur_flat.specs.declared.flat.Flat.{Flat}
 use Rattle.spur_flat.specs.Blocks.{root_word_of}
-use Rattle.spur_flat.specs.Pager.{or_zero, with_page, word_of}
+use Rattle.spur_flat.specs.Pager.{or_zero, word_of}
+use Rattle.spur_addr.specs.Pages.{with_page}
 use Rattle.spur_flat.specs.Table.{table_words}
 use Rattle.spur_flat.specs.Validity.{IsDataFrame, IsValidFlat}
 use Rattle.spur_flat.proofs.PagerFacts.{frame_inside, length-with_page}

@@ -178,6 +178,17 @@ module _ (w : View) (b frame page slot : ℕ) (within : b < length w.caches) (f 
       let clash : true ≡ false = sym (holds rest st).valid ∙ ap (λ (n : ℕ). is_valid (word_of F (page_address n))) (sym is) ∙ absent in
       cc)
 
+  -- one bit of its entry changes, and that is not the dirty one
+  dirty_stays : (v : View) (rest : Flat) (new : ℕ) → Stands rest w → standing_flat rest v ≡ placed (standing_flat rest w) g new → is_dirty new ≡ is_dirty (word_of (standing_flat rest w) g) → KeepsDirty w v
+  dirty_stays v rest new st flat kept other small =
+      let F : Flat = standing_flat rest w in
+      let e = entries F g new (here_above rest st) in
+      ap (λ (G : Flat). is_dirty (word_of G (page_address other))) flat
+      ∙ elim (cases_eq other (page_of g)) [
+        | inl same ↦ ap (λ (n : ℕ). is_dirty n) (e.here other small same) ∙ kept ∙ ap (λ (p : ℕ). is_dirty (word_of F (page_address p))) (sym (same ∙ page_again page))
+        | inr apart ↦ ap (λ (n : ℕ). is_dirty n) (e.others other small apart)
+      ]
+
   pub look_clears : (v : View) (rest : Flat) → Stands rest w → IsOfStore w v → is_referenced (word_in (hold_of w) g) ≡ true → v.frames ≡ passed w.frames
       → Changes b g (clock_change (word_in (hold_of w) g)) (hold_of w) (past_of w) (hold_of v) (past_of v) → Looks b w v false
   look_clears v some st store referenced frames c =
@@ -204,6 +215,7 @@ module _ (w : View) (b frame page slot : ℕ) (within : b < length w.caches) (f 
                   (λ (small : other < user_pages). ap (λ (G : Flat). word_of G (page_address other)) flat ∙ e.others other small (λ (same : other ≡ page_of g). apart (same ∙ page_again page)));
             }));
         absent = absent_stays v some (changed Unreferenced (word_of F g)) st flat;
+        dirty = dirty_stays v some (changed Unreferenced (word_of F g)) st flat (same_bit (word_of F g) 1 2 false (λ h. cc));
         lines = changes_lines b g Unreferenced w v (past_of w) (past_of v) change st.walk;
       }
 
@@ -224,6 +236,7 @@ module _ (w : View) (b frame page slot : ℕ) (within : b < length w.caches) (f 
         room = room_used b g (hold_of w) (hold_of v) (past_of w) (past_of v) (clock_change (word_in (hold_of w) g)) c;
         looked = Leaves (bit_is h.small ∙ unreferenced) (subst (λ (p : ℕ). Runs b (leave b p ∷ []) w v) (sym page_is) run) frames;
         absent = absent_stays v some (changed Leaving (word_of F g)) st (flat_is w v b g Leaving (leave_may some st) store framed change some);
+        dirty = dirty_stays v some (changed Leaving (word_of F g)) st (flat_is w v b g Leaving (leave_may some st) store framed change some) (same_bit (word_of F g) 6 2 true (λ h. cc));
         lines = changes_lines b g Leaving w v (past_of w) (past_of v) change st.walk;
       }
 

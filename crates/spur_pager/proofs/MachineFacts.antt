@@ -9,7 +9,8 @@ use Rattle.spur_addr.specs.PageEntry.{is_dirty, is_leaving, is_on_swap, is_reada
 use Rattle.spur_cache.specs.declared.line.Line.{Line}
 use Rattle.spur_snoop.specs.Size.{IsLineCount}
 use Rattle.spur_flat.specs.declared.flat.Flat.{Flat}
-use Rattle.spur_flat.specs.Pager.{or_zero, page_at, position_in, word_of}
+use Rattle.spur_flat.specs.Pager.{or_zero, position_in, word_of}
+use Rattle.spur_addr.specs.Pages.{page_at}
 use Rattle.spur_flat.specs.Table.{entry_at}
 use Rattle.spur_flat.specs.Validity.{AreTables, IsDataFrame, IsDeclared, IsTableFrame, IsValidFlat}
 use Rattle.spur_bus.specs.Calls.{line_count}

@@ -40,6 +40,7 @@ pub record IsMoved (b g : ℕ) (change : Change) (w v : View) (from : Hold) (c :
   pub framed : (rest : Flat) → Stands rest w → AreFramed (standing_flat rest v) v.frames
   pub clean : (rest : Flat) (words : List ℕ) → Stands rest w → v.pages ≡ Some words → AreClean (standing_flat rest v)
   pub slots : v.slots ≡ w.slots
+  pub ahead : v.ahead ≡ w.ahead
   pub tells : tells v.pages ≡ tells w.pages
 
 -- likeness goes on, and it is mutual where the other's swap has 1024 words a page too
@@ -151,4 +152,5 @@ moved-keeps b g change w v from c m = record {
   memory = ap (λ (h : Hold). length h.memory) c.to_is ∙ c.leads.size ∙ m.size;
   slots = m.slots;
   tells = m.tells;
+  ahead = m.ahead;
 }

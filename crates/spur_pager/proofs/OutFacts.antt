@@ -7,12 +7,12 @@ use Rattle.spur_addr.proofs.EntryFacts.{is_valid-swapped}
 use Rattle.spur_flat.specs.declared.flat.Flat.{Flat}
 use Rattle.spur_flat.specs.declared.entry.Entry.TheVariants.{PageOut}
 use Rattle.spur_flat.specs.History.{on}
-use Rattle.spur_flat.specs.Pager.{entry_place, is_declared, page_at, position_in, slot_of, with_page, word_of}
+use Rattle.spur_flat.specs.Pager.{entry_place, is_declared, position_in, slot_of, word_of}
+use Rattle.spur_addr.specs.Pages.{page_at, with_page}
 use Rattle.spur_flat.specs.Untold.{IsLike}
 use Rattle.spur_flat.specs.Validity.{IsDataFrame, IsValidFlat}
 use Rattle.spur_flat.proofs.PagerFacts.{frame_inside, page_long, slot_inside, valid-gone_out}
 use Rattle.spur_swap.specs.Told.{told_with}
-use Rattle.spur_phys.specs.Pages as phys
 use Rattle.spur_frames.specs.Frames.{Frames, IsFrame, IsTaken, release_frame}
 use Rattle.spur_bus.specs.Logical.{logical_words}
 use Rattle.spur_bus.proofs.WordsFacts.{length-logical}
@@ -50,8 +50,9 @@ told_if dirty pages slot page = if dirty then told_with pages slot page else pag
 
 -- the page was written to its slot where it was dirty, and the frame is free
 pub record IsSaved (frame page slot : ℕ) (w v : View) : Type 0 where
-  pub pages : v.pages ≡ told_if (is_dirty (entry_in w page)) w.pages slot (phys.page_at w.memory (frame * 1024))
+  pub pages : v.pages ≡ told_if (is_dirty (entry_in w page)) w.pages slot (page_at w.memory frame)
   pub slots : v.slots ≡ w.slots
+  pub ahead : v.ahead ≡ w.ahead
   pub frames : v.frames ≡ release_frame w.frames frame
 
 with_told_is : (rest : Flat) (p : Option (List ℕ)) → with_told rest p ≡ record rest { swap = (with_told rest p).swap }
@@ -135,7 +136,7 @@ module _ (w : View) (b frame page slot : ℕ) (may : MayGoOut w b frame page slo
       omega arith
 
   -- the frame has the words that memory has there
-  page_words : (rest : Flat) → Stands rest w → page_at (standing_flat rest w).words frame ≡ phys.page_at w.memory (frame * 1024)
+  page_words : (rest : Flat) → Stands rest w → page_at (standing_flat rest w).words frame ≡ page_at w.memory frame
   page_words rest st = frame_words w.caches w.memory frame (unheld_bare (hold_of w) g frame st.walk user may.leaving.valid (holds rest st).number may.unheld) (frame_within rest st)
 
   -- a data frame is one of the table's
@@ -165,7 +166,7 @@ module _ (w : View) (b frame page slot : ℕ) (may : MayGoOut w b frame page slo
         let F : Flat = standing_flat rest w in
         let d : Bool = is_dirty (entry_in w page) in
         let h = holds rest st in
-        let put : List ℕ = phys.page_at w.memory (frame * 1024) in
+        let put : List ℕ = page_at w.memory frame in
         let had : words ≡ F.swap = sym (ap (λ (p : Option (List ℕ)). (with_told rest p).swap) is) in
         let words_is : put ≡ page_at F.words (number_of (word_of F g)) = sym (page_words rest st) ∙ ap (page_at F.words) (sym h.number) in
         ap (λ (p : Option (List ℕ)). (with_told rest p).swap) (saved_as.pages ∙ ap (λ (p : Option (List ℕ)). told_if d p slot put) is)
@@ -208,7 +209,7 @@ module _ (w : View) (b frame page slot : ℕ) (may : MayGoOut w b frame page slo
         (subst (λ (G : Flat). AreFramed G (release_frame w.frames frame)) (sym (flat_is rest)) (framed_swap (placed F g new) (standing_flat rest v).swap (release_frame w.frames frame) after))
 
     same_tells : tells v.pages ≡ tells w.pages
-    same_tells = ap tells saved_as.pages ∙ tells_if (is_dirty (entry_in w page)) w.pages slot (phys.page_at w.memory (frame * 1024))
+    same_tells = ap tells saved_as.pages ∙ tells_if (is_dirty (entry_in w page)) w.pages slot (page_at w.memory frame)
 
     -- each other page that is clean has the words of its slot
     clean_out : (rest : Flat) → Stands rest w → AreClean (standing_flat rest w) → AreClean (record (placed (standing_flat rest w) g new) { swap = swap_after (standing_flat rest w) })
@@ -261,6 +262,7 @@ module _ (w : View) (b frame page slot : ℕ) (may : MayGoOut w b frame page slo
       framed = framed;
       clean = clean;
       slots = saved_as.slots;
+      ahead = saved_as.ahead;
       tells = same_tells;
     }
 

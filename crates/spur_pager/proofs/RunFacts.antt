@@ -96,10 +96,11 @@ pub record MayWritten (w : View) (b g : ℕ) (change : Change) : Type 0 where
   pub valid : is_valid (word_in (hold_of w) g) ≡ true
   pub allowed : (rest : Flat) → Stands rest w → IsAllowed (standing_flat rest w) (entry_for change b g)
 
--- the same swap is seen
+-- the same swap is seen, and the same settings
 pub record IsOfStore (w v : View) : Type 0 where
   pub pages : v.pages ≡ w.pages
   pub slots : v.slots ≡ w.slots
+  pub ahead : v.ahead ≡ w.ahead
 
 in_user : (F : Flat) (frames : Frames) → AreFrames frames → AreFramed F frames → (frame : ℕ) → frames.leaving ≡ Some frame → page_in frames frame < user_pages
 in_user F frames table framed frame is =
@@ -174,6 +175,7 @@ module _ (w v : View) (b g : ℕ) (change : Change) (may : MayWritten w b g chan
     framed = λ (rest : Flat) (st : Stands rest w). subst (λ (G : Flat). AreFramed G v.frames) (sym (flat_is rest)) (framed rest st);
     clean = clean;
     slots = store.slots;
+    ahead = store.ahead;
     tells = ap served.tells store.pages;
   }
 

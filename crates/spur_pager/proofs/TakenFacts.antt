@@ -8,7 +8,8 @@ use Rattle.spur_addr.specs.Address.{page_of, table_start}
 use Rattle.spur_addr.specs.PageEntry.{is_dirty, is_leaving, is_on_swap, is_valid, number_of, protection_of, resident_of}
 use Rattle.spur_addr.proofs.EntryFacts.{is_leaving-resident, is_valid-resident, number_of-resident}
 use Rattle.spur_flat.specs.declared.flat.Flat.{Flat}
-use Rattle.spur_flat.specs.Pager.{is_declared, page_at, position_in, slot_of, word_of}
+use Rattle.spur_flat.specs.Pager.{is_declared, position_in, slot_of, word_of}
+use Rattle.spur_addr.specs.Pages.{page_at}
 use Rattle.spur_flat.specs.Validity.{IsDataFrame, IsDeclared, IsValidFlat}
 use Rattle.spur_flat.proofs.PagerFacts.{declared_stands, frame_inside}
 use Rattle.spur_frames.specs.Frames.{AreFrames, Frames, IsFrame, IsFree, holder_of, take_frame}

@@ -67,6 +67,7 @@ pub record IsTurning (b : ℕ) (w u : View) : Type 0 where
   pub room : entry_room * (length (turn_of u).cleared + 1) ≤ u.room
   pub used : w.room ≤ u.room + entry_room * length cleared
   pub absent : KeepsAbsent w u
+  pub dirty : KeepsDirty w u
   pub lines : HasNoMoreLines w u
 
 -- a page that is not valid stays so, and with it its entry
@@ -83,7 +84,7 @@ lines_then w u v first second page small =
 
 pub nothing_runs : (b : ℕ) (w : View) → Runs b [] w w
 nothing_runs b w =
-    runs_none b w w refl refl refl (record { boards = refl; lines = refl; memory = refl; slots = refl; tells = refl })
+    runs_none b w w refl refl refl (record { boards = refl; lines = refl; memory = refl; slots = refl; tells = refl; ahead = refl })
     (λ (rest : Flat) (st : Stands rest w). record { carried = carried_none rest w w refl; stands = st })
 
 pub turning_none : (b : ℕ) (w : View) → (s : IsServable w) → w.frames.leaving ≡ None → AreFrames w.frames → IsSome (looked_at w.frames) → entry_room * (length (turn_of w).cleared + 1) ≤ w.room → IsTurning b w w
@@ -99,6 +100,7 @@ turning_none b w s staying table taken room = record {
   room = room;
   used = omega arith;
   absent = λ (page : ℕ) (small : page < user_pages) (absent : is_valid (entry_in w page) ≡ false). refl;
+  dirty = λ (page : ℕ) (small : page < user_pages). refl;
   lines = λ (page : ℕ) (small : page < user_pages). omega arith;
 }
 
@@ -154,6 +156,7 @@ turning_more b w u v t l =
       room = room_left (length (turn_of u).cleared) (length (turn_of v).cleared) u.room v.room count t.room l.room;
       used = room_used (length t.cleared) (length (t.cleared ++ page ∷ [])) w.room u.room v.room (length-append t.cleared (page ∷ [])) t.used l.room;
       absent = absent_then w u v t.absent l.absent;
+      dirty = λ (page : ℕ) (small : page < user_pages). l.dirty page small ∙ t.dirty page small;
       lines = lines_then w u v t.lines l.lines;
     }
   where
@@ -179,6 +182,7 @@ turned_all b w u v t l =
           ∙ ap (λ (x : Turn). record w.frames { hand = x.hand; leaving = Some (frame_held x.leaves) }) (sym turn);
       room = room_all (length t.cleared) (length (turn_of w).cleared) w.room u.room v.room (ap (λ (x : Turn). length x.cleared) turn) t.used l.room;
       absent = absent_then w u v t.absent l.absent;
+      dirty = λ (page : ℕ) (small : page < user_pages). l.dirty page small ∙ t.dirty page small;
       lines = lines_then w u v t.lines l.lines;
     }
   where

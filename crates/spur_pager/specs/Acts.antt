@@ -3,8 +3,9 @@ use Rattle.std.specs.Prelude.{ℕ, ◌≡◌, ◌+◌, ◌*◌, true, false, if�
 use Rattle.spur_addr.specs.Address.{entry_address_of}
 use Rattle.spur_addr.specs.PageEntry.{protection_of, resident_of, swapped_of, with_bit}
 use Rattle.spur_cache.specs.declared.line.Line.{Line}
+use Rattle.spur_cache.specs.Lens.{Lens, caches}
 use Rattle.spur_cache.specs.Lines.{is_of_page, with_word}
-use Rattle.spur_phys.specs.Pages.{with_page}
+use Rattle.spur_addr.specs.Pages.{with_page}
 use Rattle.spur_flat.specs.declared.entry.Entry.{Entry}
 use Rattle.spur_flat.specs.declared.entry.Entry.TheVariants.{BlockFlush, Leave, PageOut, PageIn, SetRef, SetDirty, ClearRef}
 use Rattle.spur_flat.specs.Pager.{word_of}
@@ -20,6 +21,10 @@ use Rattle.spur_pager.specs.Stand.{page_address}
 pub record Hold : Type 0 where
   pub caches : List (List (Option Line))
   pub memory : List ℕ
+
+-- those of boards
+abbrev pub hold_by : {X : Type 0} → Lens X → List X → List ℕ → Hold
+hold_by lens boards words = record { caches = caches lens boards; memory = words }
 
 -- caches and memory after one step of `advance_entry` of board b towards the entry of the page of g, and its answer
 abbrev pub step_of : ℕ → ℕ → Hold → Hold
@@ -80,7 +85,7 @@ flushed_hold page h = record { caches = map (without_page page) h.caches; memory
 
 -- a frame with the words of a page
 abbrev pub loaded_hold : ℕ → List ℕ → Hold → Hold
-loaded_hold frame words h = record h { memory = with_page h.memory (frame * 1024) words }
+loaded_hold frame words h = record h { memory = with_page h.memory frame words }
 
 -- An act of the pager: the entry of the page of g is changed, with an entry of the history; a page's lines are flushed; a
 -- page is read from swap into a frame.

@@ -2,7 +2,7 @@
 use Rattle.std.specs.Prelude.{ℕ, ◌≡◌, ◌≢◌, ◌+◌, ◌<◌, ◌≤◌, true, false, not, List, [], ◌∷◌, length, slice_index, Option, Some, IsTrue}
 use Rattle.spur_addr.specs.PageEntry.{is_dirty, is_leaving, is_on_swap, is_readable, is_valid, number_of}
 use Rattle.spur_flat.specs.declared.flat.Flat.{Flat}
-use Rattle.spur_flat.specs.Pager.{page_at}
+use Rattle.spur_addr.specs.Pages.{page_at}
 use Rattle.spur_bus.specs.Calls.{line_count}
 use Rattle.spur_frames.specs.Frames.{AreFrames, Frames, holder_of}
 use Rattle.spur_pager.specs.View.{View}

@@ -56,3 +56,14 @@ pub record Changes (b g : ℕ) (change : Change) (from : Hold) (before : Past) (
 -- what the clock does with the entry that it looks at
 abbrev pub clock_change : ℕ → Change
 clock_change e = if is_referenced e then Unreferenced else Leaving
+
+-- that, of the entry of the page of g as it stands
+abbrev pub ticked : Hold → ℕ → Change
+ticked h g = clock_change (word_in h g)
+
+-- it may do that, and did
+abbrev pub MayTick : ℕ → ℕ → Hold → Type 0
+MayTick b g from = MayChange b g (ticked from g) from
+
+abbrev pub Ticks : ℕ → ℕ → Hold → Past → Hold → Past → Type 0
+Ticks b g from before to after = Changes b g (ticked from g) from before to after

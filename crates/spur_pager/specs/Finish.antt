@@ -12,7 +12,7 @@ use Rattle.spur_pager.specs.Course.{finish_acts, flush_acts, free_course, gained
 use Rattle.spur_pager.specs.Room.{clock_room, entry_room, free_room, lines_of}
 use Rattle.spur_pager.specs.Runs.{Runs}
 use Rattle.spur_pager.specs.Served.{IsStillLeaving}
-use Rattle.spur_pager.specs.Looks.{HasNoMoreLines, KeepsAbsent}
+use Rattle.spur_pager.specs.Looks.{HasNoMoreLines, KeepsAbsent, KeepsDirty}
 
 -- The page of the leaving frame is out, and the frame is free.
 pub record Finishes (b frame : ℕ) (w v : View) : Type 0 where
@@ -42,6 +42,7 @@ pub record HasLeaving (b : ℕ) (w v : View) (frame : ℕ) : Type 0 where
   pub taken : IsTaken v.frames frame
   pub room : w.room ≤ v.room + clock_room w w.frames.leaving
   pub absent : KeepsAbsent w v
+  pub dirty : KeepsDirty w v
   pub lines : HasNoMoreLines w v
 
 -- A frame is free: the least one.

@@ -1,7 +1,7 @@
 pub mod Past
 pub mod View
-pub mod Lens
 pub mod Stand
+pub mod Counts
 pub mod Bench
 pub mod Acts
 pub mod Course

@@ -1,6 +1,6 @@
 -- The clock looks at the page that the hand finds.
 use Rattle.std.specs.Prelude.{ℕ, ◌≡◌, ◌+◌, ◌*◌, ◌<◌, ◌≤◌, length, Bool, true, false, [], ◌∷◌, Some}
-use Rattle.spur_addr.specs.PageEntry.{is_valid}
+use Rattle.spur_addr.specs.PageEntry.{is_dirty, is_valid}
 use Rattle.spur_frames.specs.Frames.{IsTaken, looked_at, passed}
 use Rattle.spur_frames.specs.Clock.{IsCleared}
 use Rattle.spur_frames.specs.Clock as clock
@@ -22,6 +22,10 @@ pub data IsLooked (b : ℕ) (w v : View) (frame : ℕ) : Bool → Type 0 where
 abbrev pub KeepsAbsent : View → View → Type 0
 KeepsAbsent w v = (page : ℕ) → page < user_pages → is_valid (entry_in w page) ≡ false → entry_in v page ≡ entry_in w page
 
+-- each page is dirty where it was
+abbrev pub KeepsDirty : View → View → Type 0
+KeepsDirty w v = (page : ℕ) → page < user_pages → is_dirty (entry_in v page) ≡ is_dirty (entry_in w page)
+
 -- no page has more lines than it had
 abbrev pub HasNoMoreLines : View → View → Type 0
 HasNoMoreLines w v = (page : ℕ) → page < user_pages → lines_of v.caches page ≤ lines_of w.caches page
@@ -33,6 +37,7 @@ pub record Looks (b : ℕ) (w v : View) (leaves : Bool) : Type 0 where
   pub room : w.room ≤ v.room + entry_room
   pub looked : IsLooked b w v frame leaves
   pub absent : KeepsAbsent w v
+  pub dirty : KeepsDirty w v
   pub lines : HasNoMoreLines w v
 
 -- The clock was run: it cleared what its turn says, and the turn's page leaves.
@@ -41,4 +46,5 @@ pub record Clocks (b : ℕ) (w v : View) : Type 0 where
   pub frames : v.frames ≡ record w.frames { hand = (turn_of w).hand; leaving = Some (frame_held (turn_of w).leaves) }
   pub room : w.room ≤ v.room + entry_room * (length (turn_of w).cleared + 1)
   pub absent : KeepsAbsent w v
+  pub dirty : KeepsDirty w v
   pub lines : HasNoMoreLines w v

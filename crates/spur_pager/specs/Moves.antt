@@ -51,7 +51,7 @@ pub record ComesIn (b frame page slot : ℕ) (w v : View) : Type 0 where
   pub word : entry_in v page ≡ resident_of frame (protection_of (entry_in w page))
   pub exclusive : HasLine v.caches b (entry_address_of (page_address page)) is_exclusive
 
--- The swap object failed: but for its count of faults, and its count of reads, all is as it was.
+-- The swap object failed: but for its counts of faults, of reads and of writes, all is as it was.
 pub record HasSwapFailed (w v : View) : Type 0 where
   pub caches : v.caches ≡ w.caches
   pub memory : v.memory ≡ w.memory
@@ -60,6 +60,7 @@ pub record HasSwapFailed (w v : View) : Type 0 where
   pub slots : v.slots ≡ w.slots
   pub history : v.history ≡ w.history
   pub room : v.room ≡ w.room
+  pub ahead : v.ahead ≡ w.ahead
   pub rose : w.faults < v.faults
 
 -- so it did on writing, which is done for a page that is dirty alone

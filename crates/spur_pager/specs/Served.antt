@@ -1,5 +1,5 @@
 -- What serving a fault leaves.
-use Rattle.std.specs.Prelude.{ℕ, ◌≡◌, ◌+◌, ◌<◌, ◌≤◌, ⊤, IsSome, Bool, true, false, List, [], ◌++◌, drop, length, Option, Some, None, Result, Ok, Err}
+use Rattle.std.specs.Prelude.{ℕ, ◌≡◌, ◌+◌, ◌<◌, ◌≤◌, ⊤, is_none, ◌&&◌, IsSome, Bool, true, false, List, [], ◌++◌, drop, length, Option, Some, None, Result, Ok, Err}
 use Rattle.std.specs.List.{AllByRecursion}
 use Rattle.spur_addr.specs.Address.{entry_address_of, page_of}
 use Rattle.spur_addr.specs.PageEntry.{is_dirty, is_leaving, is_valid, number_of, protection_of, resident_of, swapped_of, with_bit}
@@ -14,7 +14,6 @@ use Rattle.spur_flat.specs.TagRules.{is_exclusive}
 use Rattle.spur_bus.specs.Calls.{HasLine, line_count}
 use Rattle.spur_frames.specs.Frames.{least_free}
 use Rattle.spur_frames.specs.Clock.{page_in}
-use Rattle.spur_swap.specs.Told.{one_read_more}
 use Rattle.spur_walk.specs.declared.step.Walked.TheVariants as walked
 use Rattle.spur_walk.specs.Laws.{is_served, need_of}
 use Rattle.spur_walk.specs.Plan.{access_plan}
@@ -24,6 +23,7 @@ use Rattle.spur_pager.specs.declared.fault.ServeFault.TheVariants as serve
 use Rattle.spur_pager.specs.Made.{IsMade}
 use Rattle.spur_pager.specs.View.{View}
 use Rattle.spur_pager.specs.Stand.{CarriesOn, Stands, entry_in, flat_in}
+use Rattle.spur_pager.specs.Counts.{Counts}
 use Rattle.spur_pager.specs.Acts.{Hold, IsDone}
 use Rattle.spur_pager.specs.Course.{course_of, gained, slot_in, victim_of}
 use Rattle.spur_pager.specs.Room.{lines_of, room_for}
@@ -61,14 +61,15 @@ abbrev pub tells : Option (List ℕ) → Bool
 tells None = false
 tells (Some words) = true
 
--- what does not change: the numbers of caches, of their lines and of the memory's words, and the number of slots; and a
--- swap object that tells its pages goes on telling
+-- what does not change: the numbers of caches, of their lines and of the memory's words, the number of slots, and the
+-- store's settings; and a swap object that tells its pages goes on telling
 pub record Keeps (w v : View) : Type 0 where
   pub boards : length v.caches ≡ length w.caches
   pub lines : line_count v.caches ≡ line_count w.caches
   pub memory : length v.memory ≡ length w.memory
   pub slots : v.slots ≡ w.slots
   pub tells : tells v.pages ≡ tells w.pages
+  pub ahead : v.ahead ≡ w.ahead
 
 -- for all declared pages for which the state stood: the entries are carried to the state that stands, and it stands again
 abbrev pub IsCarriedOn : View → View → Type 0
@@ -123,11 +124,29 @@ pub record HasFailed (b : ℕ) (w : View) (kind : FaultKind) (at : ℕ) (v : Vie
   pub leaves : LeavesFault b w kind at v why
 
 -- the page of a Missing fault is read once, unless the write before it failed; nothing else is read
-abbrev pub reads_after : ℕ → FaultKind → Result (Unit {0}) ServeFault → ℕ
-reads_after reads fault.Missing (Ok done) = one_read_more reads
-reads_after reads fault.Missing (Err serve.SwapRead) = one_read_more reads
-reads_after reads fault.Missing (Err serve.SwapWrite) = reads
-reads_after reads kind answer = reads
+abbrev pub has_read : FaultKind → Result (Unit {0}) ServeFault → Bool
+has_read fault.Missing (Ok done) = true
+has_read fault.Missing (Err serve.SwapRead) = true
+has_read fault.Missing (Err serve.SwapWrite) = false
+has_read kind answer = false
+
+-- where no frame is free, the page that goes out is written exactly where it is dirty
+abbrev pub writes_to_free : View → Bool
+writes_to_free w = is_none (least_free w.frames) && is_dirty (entry_in w (page_in w.frames (victim_of w)))
+
+-- so a frame is made free
+abbrev pub CountsFreeing : View → View → Type 0
+CountsFreeing w v = Counts false (writes_to_free w) w v
+
+-- a page is written once where a dirty one is put out, and else none is
+abbrev pub has_written : View → FaultKind → Bool
+has_written w fault.Leaving = is_dirty (entry_in w (page_in w.frames (victim_of w)))
+has_written w fault.Missing = writes_to_free w
+has_written w kind = false
+
+-- so the swap object was called, and no more often
+abbrev pub CountsServing : View → FaultKind → Result (Unit {0}) ServeFault → View → Type 0
+CountsServing w kind answer v = Counts (has_read kind answer) (has_written w kind) w v
 
 -- the swap object is as it was for the kinds of fault that set one bit, and for a Leaving one where the page is not dirty
 abbrev pub StaysFor : {B : Type 0} → View → FaultKind → B → B → Type 0

@@ -4,7 +4,8 @@ use Rattle.std.specs.Prelude.{ℕ, ◌≡◌, ◌+◌, ◌*◌, ◌^◌, ◌<◌
 use Rattle.spur_addr.specs.PageEntry.{is_valid, is_dirty, is_leaving, number_of}
 use Rattle.spur_flat.specs.declared.flat.Flat.{Flat}
 use Rattle.spur_flat.specs.declared.entry.Entry.{Entry}
-use Rattle.spur_flat.specs.Pager.{page_at, position_in, slot_of, word_of}
+use Rattle.spur_flat.specs.Pager.{position_in, slot_of, word_of}
+use Rattle.spur_addr.specs.Pages.{page_at}
 use Rattle.spur_flat.specs.State.{State, IsCarried}
 use Rattle.spur_flat.specs.Untold.{IsCarriedUntold}
 use Rattle.spur_flat.specs.Validity.{IsDeclared, IsValidFlat}

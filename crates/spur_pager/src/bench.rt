@@ -1,6 +1,7 @@
 //! The machine of the tests: three boards with empty caches, three data frames, and four declared pages.
 
-ghost use Rattle.std.specs.Prelude.{◌≡◌, ◌<◌, ◌≤◌, IfOk, IfSome, IsTrue, None, Some, length, map, replicate, true};
+ghost use Rattle.std.specs.Prelude.{◌≡◌, ◌<◌, ◌≤◌, IfOk, IfSome, IsTrue, None, Some, length, replicate, true};
+ghost use Rattle.spur_cache.specs.Lens.{caches};
 ghost use Rattle.spur_addr.specs.Address.{table_start};
 ghost use Rattle.spur_addr.specs.PageEntry.{is_readable};
 ghost use Rattle.spur_swap.specs.Told.{HaveSlots};
@@ -8,7 +9,7 @@ ghost use Rattle.spur_snoop.specs.Protocol.{is_owned};
 ghost use Rattle.spur_walk.specs.Laws.{is_served};
 ghost use Rattle.spur_pager.specs.Bench.{FitsEntry, HasOnlyPages, IsBench, FitTogether, IsRight, MatchesSlot, NamesFrame, entry_in_slot};
 ghost use Rattle.spur_pager.specs.Served.{HasFault};
-ghost use Rattle.spur_pager.specs.View.{telling, view_of};
+ghost use Rattle.spur_pager.specs.View.{seen, view_of};
 
 use crate::clock::run_clock;
 use crate::fault::ServeFault;
@@ -89,7 +90,7 @@ pub(crate) fn machine<B: Backing + Drop>(
     mut backing: B,
     pages: [Page; 4],
 ) -> Result<([Cache; 3], Store<B>), Fail>
-    ensures { IfOk result (λ made. IsBench (view_of (telling B.pages B.slot_count B.faults B.reads) (map (λ lines. lines) made.0) made.1)) }
+    ensures { IfOk result (λ made. IsBench (view_of B.meaning (map (λ lines. lines) made.0) made.1)) }
 {
     let boards = [cache(alloc)?, cache(alloc)?, cache(alloc)?];
     let mut phys = Phys::new(alloc, 68)?;
@@ -119,9 +120,9 @@ fn fits<B: Backing>(phys: &Phys, frames: &FrameTable, backing: &mut B) -> bool
     requires phys { length phys.now ≡ 69632 }
     requires first { frames.now.first ≡ 65 }
     requires count { length frames.now.held ≡ 3 }
-    requires slots { B.slot_count backing.old ≡ 4 }
-    ensures slots { B.slot_count backing.new ≡ 4 }
-    ensures made { result ≡ true → FitTogether phys.now frames.now (B.pages backing.new) }
+    requires slots { (B.meaning backing.old).slots ≡ 4 }
+    ensures slots { (B.meaning backing.new).slots ≡ 4 }
+    ensures made { result ≡ true → FitTogether phys.now frames.now ((B.meaning backing.new).pages) }
 {
     // so that the check knows the leaving frame to be taken
     let _ = frames.frames();
@@ -160,11 +161,11 @@ fn place_page<B: Backing>(
     requires phys { length phys.old ≡ 69632 }
     requires first { frames.old.first ≡ 65 }
     requires count { length frames.old.held ≡ 3 }
-    requires slots { B.slot_count backing.old ≡ 4 }
+    requires slots { (B.meaning backing.old).slots ≡ 4 }
     ensures phys { length phys.new ≡ 69632 }
     ensures first { frames.new.first ≡ 65 }
     ensures count { length frames.new.held ≡ 3 }
-    ensures slots { B.slot_count backing.new ≡ 4 }
+    ensures slots { (B.meaning backing.new).slots ≡ 4 }
 {
     let (word, memory, swapped) = told;
     let page = PAGES[slot as usize];
@@ -315,11 +316,11 @@ fn frame_fits(phys: &Phys, frames: &FrameTable, frame: u32) -> bool
 fn slot_fits<B: Backing>(phys: &Phys, backing: &mut B, slot: u32) -> bool
     requires slot { slot < 4 }
     requires phys { length phys.now ≡ 69632 }
-    requires slots { B.slot_count backing.old ≡ 4 }
-    ensures slots { B.slot_count backing.new ≡ 4 }
-    ensures pages { B.pages backing.new ≡ B.pages backing.old }
-    ensures whole { HaveSlots (B.pages backing.new) 4 }
-    ensures fits { result ≡ true → MatchesSlot phys.now (B.pages backing.old) slot }
+    requires slots { (B.meaning backing.old).slots ≡ 4 }
+    ensures slots { (B.meaning backing.new).slots ≡ 4 }
+    ensures pages { (B.meaning backing.new).pages ≡ (B.meaning backing.old).pages }
+    ensures whole { HaveSlots ((B.meaning backing.new).pages) 4 }
+    ensures fits { result ≡ true → MatchesSlot phys.now ((B.meaning backing.old).pages) slot }
 {
     let mut swapped = [0; 1024];
     if backing.read_page(slot, &mut swapped).is_err() {
@@ -370,9 +371,9 @@ fn move_once<T: HasCache, B: Backing>(
 ) -> Option<FaultKind>
     requires own { b < length boards.old }
     requires user { at < table_start }
-    requires bench { IsBench (view_of (telling B.pages B.slot_count B.faults B.reads) (map T.lines_of boards.old) store.old) }
-    ensures bench { IsBench (view_of (telling B.pages B.slot_count B.faults B.reads) (map T.lines_of boards.new) store.new) }
-    ensures fault { IfSome result (λ kind. HasFault (view_of (telling B.pages B.slot_count B.faults B.reads) (map T.lines_of boards.new) store.new) b kind at) }
+    requires bench { IsBench (seen B.meaning T.lens boards.old store.old) }
+    ensures bench { IsBench (seen B.meaning T.lens boards.new store.new) }
+    ensures fault { IfSome result (λ kind. HasFault (seen B.meaning T.lens boards.new store.new) b kind at) }
     ensures count { length boards.new ≡ length boards.old }
 {
     match advance(boards, &mut store.phys, b, at, need) {
@@ -392,9 +393,9 @@ fn fault_of<T: HasCache, B: Backing>(
 ) -> Option<FaultKind>
     requires own { b < length boards.old }
     requires user { at < table_start }
-    requires bench { IsBench (view_of (telling B.pages B.slot_count B.faults B.reads) (map T.lines_of boards.old) store.old) }
-    ensures bench { IsBench (view_of (telling B.pages B.slot_count B.faults B.reads) (map T.lines_of boards.new) store.new) }
-    ensures fault { IfSome result (λ kind. HasFault (view_of (telling B.pages B.slot_count B.faults B.reads) (map T.lines_of boards.new) store.new) b kind at) }
+    requires bench { IsBench (seen B.meaning T.lens boards.old store.old) }
+    ensures bench { IsBench (seen B.meaning T.lens boards.new store.new) }
+    ensures fault { IfSome result (λ kind. HasFault (seen B.meaning T.lens boards.new store.new) b kind at) }
     ensures count { length boards.new ≡ length boards.old }
 {
     let _ = move_once(boards, store, b, at, need);
@@ -416,8 +417,8 @@ fn make_ready<T: HasCache, B: Backing>(
 ) -> Result<(), Fail>
     requires own { b < length boards.old }
     requires user { at < table_start }
-    requires bench { IsBench (view_of (telling B.pages B.slot_count B.faults B.reads) (map T.lines_of boards.old) store.old) }
-    ensures bench { IsBench (view_of (telling B.pages B.slot_count B.faults B.reads) (map T.lines_of boards.new) store.new) }
+    requires bench { IsBench (seen B.meaning T.lens boards.old store.old) }
+    ensures bench { IsBench (seen B.meaning T.lens boards.new store.new) }
     ensures count { length boards.new ≡ length boards.old }
 {
     let _ = fault_of(boards, store, b, at, need);
@@ -440,8 +441,8 @@ fn is_owner(state: BlockState) -> bool
 /// Makes the memory's words of a block that a board owns zero.
 fn clear<T: HasCache, B: Backing>(boards: &[T], store: &mut Store<B>, b: u32, at: GlobalAddr)
     requires own { b < length boards.now }
-    requires bench { IsBench (view_of (telling B.pages B.slot_count B.faults B.reads) (map T.lines_of boards.now) store.old) }
-    ensures { IsBench (view_of (telling B.pages B.slot_count B.faults B.reads) (map T.lines_of boards.now) store.new) }
+    requires bench { IsBench (view_of B.meaning (caches T.lens boards.now) store.old) }
+    ensures { IsBench (view_of B.meaning (caches T.lens boards.now) store.new) }
 {
     if let Some(line) = boards[b as usize].cache().find(at) {
         if is_owner(line.state) {
@@ -453,8 +454,8 @@ fn clear<T: HasCache, B: Backing>(boards: &[T], store: &mut Store<B>, b: u32, at
 /// The clock has a page leave, where none does.
 fn turn<T: HasCache, B: Backing>(boards: &mut [T], store: &mut Store<B>, b: u32) -> Result<(), Fail>
     requires own { b < length boards.old }
-    requires bench { IsBench (view_of (telling B.pages B.slot_count B.faults B.reads) (map T.lines_of boards.old) store.old) }
-    ensures bench { IsBench (view_of (telling B.pages B.slot_count B.faults B.reads) (map T.lines_of boards.new) store.new) }
+    requires bench { IsBench (seen B.meaning T.lens boards.old store.old) }
+    ensures bench { IsBench (seen B.meaning T.lens boards.new store.new) }
     ensures count { length boards.new ≡ length boards.old }
 {
     match (store.frames.leaving(), store.frames.look_next()) {
@@ -473,8 +474,8 @@ pub(crate) fn make_step<T: HasCache, B: Backing>(
     store: &mut Store<B>,
     step: Step,
 ) -> Result<(), Fail>
-    requires bench { IsBench (view_of (telling B.pages B.slot_count B.faults B.reads) (map T.lines_of boards.old) store.old) }
-    ensures bench { IsBench (view_of (telling B.pages B.slot_count B.faults B.reads) (map T.lines_of boards.new) store.new) }
+    requires bench { IsBench (seen B.meaning T.lens boards.old store.old) }
+    ensures bench { IsBench (seen B.meaning T.lens boards.new store.new) }
     ensures count { length boards.new ≡ length boards.old }
 {
     let (b, number) = match step {
@@ -506,8 +507,8 @@ pub(crate) fn served<T: HasCache, B: Backing>(
     number: u64,
     need: Need,
 ) -> Result<(FaultKind, Result<(), ServeFault>), Fail>
-    requires bench { IsBench (view_of (telling B.pages B.slot_count B.faults B.reads) (map T.lines_of boards.old) store.old) }
-    ensures bench { IsBench (view_of (telling B.pages B.slot_count B.faults B.reads) (map T.lines_of boards.new) store.new) }
+    requires bench { IsBench (seen B.meaning T.lens boards.old store.old) }
+    ensures bench { IsBench (seen B.meaning T.lens boards.new store.new) }
     ensures count { length boards.new ≡ length boards.old }
 {
     let at = user_address(number).ok_or("no address")?;
@@ -521,7 +522,7 @@ pub(crate) fn served<T: HasCache, B: Backing>(
 
 /// What is to be seen.
 pub(crate) fn looked<T: HasCache, B: Backing>(boards: &[T], store: &Store<B>) -> Seen
-    requires bench { IsBench (view_of (telling B.pages B.slot_count B.faults B.reads) (map T.lines_of boards.now) store.now) }
+    requires bench { IsBench (seen B.meaning T.lens boards.now store.now) }
 {
     let frames = &store.frames;
     Seen {
@@ -568,7 +569,7 @@ fn frame_word(phys: &Phys, frame: u32) -> u32 {
 
 /// The words at `PLACE` of the slots, all of whose other words are zero; where they are not, the greatest number.
 pub(crate) fn slot_words<B: Backing>(backing: &mut B) -> [u32; 4]
-    requires { B.slot_count backing.old ≡ 4 }
+    requires { (B.meaning backing.old).slots ≡ 4 }
 {
     [
         slot_word(backing, 0),
@@ -579,9 +580,9 @@ pub(crate) fn slot_words<B: Backing>(backing: &mut B) -> [u32; 4]
 }
 
 fn slot_word<B: Backing>(backing: &mut B, slot: u32) -> u32
-    requires slots { B.slot_count backing.old ≡ 4 }
+    requires slots { (B.meaning backing.old).slots ≡ 4 }
     requires slot { slot < 4 }
-    ensures { B.slot_count backing.new ≡ 4 }
+    ensures { (B.meaning backing.new).slots ≡ 4 }
 {
     let mut words = [0; 1024];
     match backing.read_page(slot, &mut words) {

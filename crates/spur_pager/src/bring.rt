@@ -1,13 +1,14 @@
 //! A page comes in from swap.
 
-ghost use Rattle.std.specs.Prelude.{◌≡◌, ◌+◌, ◌*◌, ◌<◌, ◌≤◌, OnErr, OnOk, length, map};
-ghost use Rattle.spur_swap.specs.Told.{one_read_more};
-ghost use Rattle.spur_pager.specs.Lens.{with_caches};
+ghost use Rattle.std.specs.Prelude.{◌≡◌, ◌+◌, ◌*◌, ◌<◌, ◌≤◌, OnErr, OnOk, length};
+ghost use Rattle.spur_cache.specs.Lens.{OnlyLines};
+ghost use Rattle.spur_swap.specs.Meaning.{SameButFaults, after_read};
+ghost use Rattle.spur_pager.specs.Counts.{Counts};
 ghost use Rattle.spur_pager.specs.Loads.{IsLoaded};
 ghost use Rattle.spur_pager.specs.Moves.{ComesIn, HasSwapFailed, MayComeIn};
 ghost use Rattle.spur_pager.specs.Room.{entry_room};
 ghost use Rattle.spur_pager.specs.Stand.{IsServable};
-ghost use Rattle.spur_pager.specs.View.{telling, view_of};
+ghost use Rattle.spur_pager.specs.View.{seen};
 
 use crate::change::Change;
 use crate::entry::change_entry;
@@ -28,15 +29,22 @@ pub(crate) fn bring_in<T: HasCache, B: Backing>(
     page: u32,
     slot: u32,
 ) -> Result<(), Failed>
-    requires stands { IsServable (view_of (telling B.pages B.slot_count B.faults B.reads) (map T.lines_of boards.old) store.old) }
-    requires may { MayComeIn (view_of (telling B.pages B.slot_count B.faults B.reads) (map T.lines_of boards.old) store.old) b frame page slot }
+    requires stands { IsServable (seen B.meaning T.lens boards.old store.old) }
+    requires may { MayComeIn (seen B.meaning T.lens boards.old store.old) b frame page slot }
     requires room { entry_room ≤ store.old.history.room }
-    ensures brought { OnOk result (ComesIn b frame page slot (view_of (telling B.pages B.slot_count B.faults B.reads) (map T.lines_of boards.old) store.old) (view_of (telling B.pages B.slot_count B.faults B.reads) (map T.lines_of boards.new) store.new)) }
-    ensures failed { OnErr result (HasSwapFailed (view_of (telling B.pages B.slot_count B.faults B.reads) (map T.lines_of boards.old) store.old) (view_of (telling B.pages B.slot_count B.faults B.reads) (map T.lines_of boards.new) store.new)) }
-    ensures read { B.reads store.new.backing ≡ one_read_more (B.reads store.old.backing) }
-    ensures later { B.faults store.old.backing ≤ B.faults store.new.backing }
-    ensures ahead { store.new.ahead ≡ store.old.ahead }
-    ensures lens { boards.new ≡ with_caches T.with_lines boards.old (map T.lines_of boards.new) }
+    ensures brought {
+        OnOk result (ComesIn b frame page slot (seen B.meaning T.lens boards.old store.old)
+            (seen B.meaning T.lens boards.new store.new))
+    }
+    ensures failed {
+        OnErr result (HasSwapFailed (seen B.meaning T.lens boards.old store.old)
+            (seen B.meaning T.lens boards.new store.new))
+    }
+    ensures counts {
+        Counts true false (seen B.meaning T.lens boards.old store.old)
+            (seen B.meaning T.lens boards.new store.new)
+    }
+    ensures lens { OnlyLines T.lens boards.old boards.new }
 {
     // so that the check knows the leaving frame to be a taken one
     let _ = store.frames.frames();
@@ -60,15 +68,13 @@ fn load_page<B: Backing>(
     frame: u32,
     slot: u32,
 ) -> Result<(), Failed>
-    requires slot { slot < B.slot_count backing.old }
+    requires slot { slot < (B.meaning backing.old).slots }
     requires frame { frame * 1024 + 1024 ≤ length phys.old }
-    ensures loaded { OnOk result (IsLoaded (B.pages backing.old) slot frame phys.old phys.new) }
+    ensures loaded { OnOk result (IsLoaded ((B.meaning backing.old).pages) slot frame phys.old phys.new) }
     ensures memory_stays { OnErr result (phys.new ≡ phys.old) }
-    ensures pages_stay { B.pages backing.new ≡ B.pages backing.old }
-    ensures slots_stay { B.slot_count backing.new ≡ B.slot_count backing.old }
-    ensures counted { B.reads backing.new ≡ one_read_more (B.reads backing.old) }
-    ensures later { B.faults backing.old ≤ B.faults backing.new }
-    ensures cause { OnErr result (B.faults backing.old < B.faults backing.new) }
+    ensures stays { SameButFaults (after_read (B.meaning backing.old)) (B.meaning backing.new) }
+    ensures later { (B.meaning backing.old).faults ≤ (B.meaning backing.new).faults }
+    ensures cause { OnErr result ((B.meaning backing.old).faults < (B.meaning backing.new).faults) }
 {
     let mut page = [0; 1024];
     backing.read_page(slot, &mut page)?;

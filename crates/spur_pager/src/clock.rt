@@ -1,13 +1,13 @@
 //! The clock, which chooses the page that leaves.
 
-ghost use Rattle.std.specs.Prelude.{◌≡◌, ◌<◌, ◌≤◌, ◌+◌, ◌*◌, IsSome, None, length, map};
+ghost use Rattle.std.specs.Prelude.{◌≡◌, ◌<◌, ◌≤◌, ◌+◌, ◌*◌, IsSome, None, length};
+ghost use Rattle.spur_cache.specs.Lens.{OnlyLines};
 ghost use Rattle.spur_frames.specs.Frames.{looked_at};
-ghost use Rattle.spur_pager.specs.Lens.{with_caches};
 ghost use Rattle.spur_pager.specs.Course.{turn_of};
 ghost use Rattle.spur_pager.specs.Looks.{Clocks, Looks};
 ghost use Rattle.spur_pager.specs.Room.{entry_room};
 ghost use Rattle.spur_pager.specs.Stand.{IsServable};
-ghost use Rattle.spur_pager.specs.View.{telling, view_of};
+ghost use Rattle.spur_pager.specs.View.{seen};
 
 use crate::change::Change;
 use crate::entry::tick;
@@ -20,14 +20,16 @@ use spur_swap::Backing;
 /// one is not referenced, or has been looked at already; the pages before that one are not referenced any more.
 pub(crate) fn run_clock<T: HasCache, B: Backing>(boards: &mut [T], store: &mut Store<B>, b: u32)
     requires own { b < length boards.old }
-    requires stands { IsServable (view_of (telling B.pages B.slot_count B.faults B.reads) (map T.lines_of boards.old) store.old) }
+    requires stands { IsServable (seen B.meaning T.lens boards.old store.old) }
     requires taken { IsSome (looked_at store.old.frames) }
     requires staying { store.old.frames.leaving ≡ None }
-    requires room { entry_room * (length (turn_of (view_of (telling B.pages B.slot_count B.faults B.reads) (map T.lines_of boards.old) store.old)).cleared + 1) ≤ store.old.history.room }
-    ensures clocks { Clocks b (view_of (telling B.pages B.slot_count B.faults B.reads) (map T.lines_of boards.old) store.old) (view_of (telling B.pages B.slot_count B.faults B.reads) (map T.lines_of boards.new) store.new) }
+    requires room {
+        entry_room * (length (turn_of (seen B.meaning T.lens boards.old store.old)).cleared + 1)
+            ≤ store.old.history.room
+    }
+    ensures clocks { Clocks b (seen B.meaning T.lens boards.old store.old) (seen B.meaning T.lens boards.new store.new) }
     ensures backing { store.new.backing ≡ store.old.backing }
-    ensures ahead { store.new.ahead ≡ store.old.ahead }
-    ensures lens { boards.new ≡ with_caches T.with_lines boards.old (map T.lines_of boards.new) }
+    ensures lens { OnlyLines T.lens boards.old boards.new }
 {
     // so that the check knows the table's hand to be on one of its frames
     let _ = store.frames.frames();
@@ -38,14 +40,16 @@ pub(crate) fn run_clock<T: HasCache, B: Backing>(boards: &mut [T], store: &mut S
 /// else it leaves, and the answer is `true`.
 fn look_once<T: HasCache, B: Backing>(boards: &mut [T], store: &mut Store<B>, b: u32) -> bool
     requires own { b < length boards.old }
-    requires stands { IsServable (view_of (telling B.pages B.slot_count B.faults B.reads) (map T.lines_of boards.old) store.old) }
+    requires stands { IsServable (seen B.meaning T.lens boards.old store.old) }
     requires taken { IsSome (looked_at store.old.frames) }
     requires staying { store.old.frames.leaving ≡ None }
     requires room { 5 ≤ store.old.history.room }
-    ensures looks { Looks b (view_of (telling B.pages B.slot_count B.faults B.reads) (map T.lines_of boards.old) store.old) (view_of (telling B.pages B.slot_count B.faults B.reads) (map T.lines_of boards.new) store.new) result }
+    ensures looks {
+        Looks b (seen B.meaning T.lens boards.old store.old)
+            (seen B.meaning T.lens boards.new store.new) result
+    }
     ensures backing { store.new.backing ≡ store.old.backing }
-    ensures ahead { store.new.ahead ≡ store.old.ahead }
-    ensures lens { boards.new ≡ with_caches T.with_lines boards.old (map T.lines_of boards.new) }
+    ensures lens { OnlyLines T.lens boards.old boards.new }
 {
     let Some(frame) = store.frames.look_next() else {
         unreachable!();

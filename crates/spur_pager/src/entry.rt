@@ -1,6 +1,7 @@
 //! The entry of a page is changed, in the cache of a board that has its block alone.
 
-ghost use Rattle.std.specs.Prelude.{[], ◌≡◌, ◌<◌, ◌≤◌, IsSome, IsTrue, get_or, length, map, true};
+ghost use Rattle.std.specs.Prelude.{[], ◌≡◌, ◌<◌, ◌≤◌, IsSome, IsTrue, get_or, length, true};
+ghost use Rattle.spur_cache.specs.Lens.{OnlyLines, caches};
 ghost use Rattle.spur_addr.specs.Address.{entry_address_of, table_start};
 ghost use Rattle.spur_addr.specs.PageEntry.{is_readable, is_valid};
 ghost use Rattle.spur_cache.specs.Lines.{found, word_in};
@@ -8,9 +9,9 @@ ghost use Rattle.spur_flat.specs.Pager.{word_of};
 ghost use Rattle.spur_walk.specs.Bounds.{page_steps_left};
 ghost use Rattle.spur_walk.specs.Present.{MayWalk};
 ghost use Rattle.spur_walk.specs.Tables.{logical_flat, root_at};
+ghost use Rattle.spur_pager.specs.Acts.{hold_by};
 ghost use Rattle.spur_pager.specs.Changes.{Changes, MayChange, clock_change, is_small};
 ghost use Rattle.spur_pager.specs.Fetch.{Fetches};
-ghost use Rattle.spur_pager.specs.Lens.{with_caches};
 
 use crate::change::{Change, changed, entry_for};
 use crate::history::History;
@@ -31,13 +32,16 @@ pub(crate) fn change_entry<T: HasCache>(
 )
     requires own { b < length boards.old }
     requires user { page < table_start }
-    requires walk { MayWalk (map T.lines_of boards.old) phys.old }
-    requires root { is_valid (root_at (logical_flat (map T.lines_of boards.old) phys.old) page) ≡ true }
+    requires walk { MayWalk (caches T.lens boards.old) phys.old }
+    requires root { is_valid (root_at (logical_flat (caches T.lens boards.old) phys.old) page) ≡ true }
     requires small { is_small change }
-    requires may { MayChange b page change (record { caches = map T.lines_of boards.old; memory = phys.old }) }
+    requires may { MayChange b page change (hold_by T.lens boards.old phys.old) }
     requires room { 5 ≤ history.old.room }
-    ensures changes { Changes b page change (record { caches = map T.lines_of boards.old; memory = phys.old }) history.old (record { caches = map T.lines_of boards.new; memory = phys.new }) history.new }
-    ensures lens { boards.new ≡ with_caches T.with_lines boards.old (map T.lines_of boards.new) }
+    ensures changes {
+        Changes b page change (hold_by T.lens boards.old phys.old) history.old
+            (hold_by T.lens boards.new phys.new) history.new
+    }
+    ensures lens { OnlyLines T.lens boards.old boards.new }
 {
     fetch(boards, phys, history, b, page);
     let entry = entry_here(boards[b as usize].cache(), page);
@@ -56,13 +60,15 @@ pub(crate) fn tick<T: HasCache>(
 ) -> Change
     requires own { b < length boards.old }
     requires user { page < table_start }
-    requires walk { MayWalk (map T.lines_of boards.old) phys.old }
-    requires root { is_valid (root_at (logical_flat (map T.lines_of boards.old) phys.old) page) ≡ true }
-    requires may { MayChange b page (clock_change (word_of (logical_flat (map T.lines_of boards.old) phys.old) page)) (record { caches = map T.lines_of boards.old; memory = phys.old }) }
+    requires walk { MayWalk (caches T.lens boards.old) phys.old }
+    requires root { is_valid (root_at (logical_flat (caches T.lens boards.old) phys.old) page) ≡ true }
+    requires may { MayTick b page (hold_by T.lens boards.old phys.old) }
     requires room { 5 ≤ history.old.room }
-    ensures change { result ≡ clock_change (word_of (logical_flat (map T.lines_of boards.old) phys.old) page) }
-    ensures changes { Changes b page (clock_change (word_of (logical_flat (map T.lines_of boards.old) phys.old) page)) (record { caches = map T.lines_of boards.old; memory = phys.old }) history.old (record { caches = map T.lines_of boards.new; memory = phys.new }) history.new }
-    ensures lens { boards.new ≡ with_caches T.with_lines boards.old (map T.lines_of boards.new) }
+    ensures change { result ≡ ticked (hold_by T.lens boards.old phys.old) page }
+    ensures changes {
+        Ticks b page (hold_by T.lens boards.old phys.old) history.old (hold_by T.lens boards.new phys.new) history.new
+    }
+    ensures lens { OnlyLines T.lens boards.old boards.new }
 {
     fetch(boards, phys, history, b, page);
     let entry = entry_here(boards[b as usize].cache(), page);
@@ -111,11 +117,14 @@ fn fetch<T: HasCache>(
 )
     requires own { b < length boards.old }
     requires user { page < table_start }
-    requires walk { MayWalk (map T.lines_of boards.old) phys.old }
-    requires root { is_valid (root_at (logical_flat (map T.lines_of boards.old) phys.old) page) ≡ true }
-    requires room { page_steps_left (get_or (map T.lines_of boards.old) b []) page ≤ history.old.room }
-    ensures fetches { Fetches b page (record { caches = map T.lines_of boards.old; memory = phys.old }) history.old (record { caches = map T.lines_of boards.new; memory = phys.new }) history.new }
-    ensures lens { boards.new ≡ with_caches T.with_lines boards.old (map T.lines_of boards.new) }
+    requires walk { MayWalk (caches T.lens boards.old) phys.old }
+    requires root { is_valid (root_at (logical_flat (caches T.lens boards.old) phys.old) page) ≡ true }
+    requires room { page_steps_left (get_or (caches T.lens boards.old) b []) page ≤ history.old.room }
+    ensures fetches {
+        Fetches b page (hold_by T.lens boards.old phys.old) history.old
+            (hold_by T.lens boards.new phys.new) history.new
+    }
+    ensures lens { OnlyLines T.lens boards.old boards.new }
 {
     while let Walked::Moved(entry) = advance_entry(boards, phys, b, page) {
         history.append(entry);

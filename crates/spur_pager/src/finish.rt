@@ -1,14 +1,16 @@
 //! A frame is made free.
 
-ghost use Rattle.std.specs.Prelude.{◌≡◌, ◌<◌, ◌≤◌, ◌+◌, None, OnErr, OnOk, IfOk, IsSome, false, Some, length, map};
+ghost use Rattle.std.specs.Prelude.{◌≡◌, ◌<◌, ◌≤◌, ◌+◌, None, OnErr, OnOk, IfOk, IsSome, false, Some, length};
+ghost use Rattle.spur_cache.specs.Lens.{OnlyLines, caches};
 ghost use Rattle.spur_addr.specs.PageEntry.{is_dirty};
 ghost use Rattle.spur_frames.specs.Clock.{page_in};
 ghost use Rattle.spur_frames.specs.Frames.{least_free};
+ghost use Rattle.spur_pager.specs.Counts.{CountsFinish};
+ghost use Rattle.spur_pager.specs.Served.{CountsFreeing};
 ghost use Rattle.spur_pager.specs.Finish.{FailsToFinish, FailsToFree, Finishes, Frees, HasLeaving};
-ghost use Rattle.spur_pager.specs.Lens.{with_caches};
 ghost use Rattle.spur_pager.specs.Room.{clock_room, entry_room, free_room, lines_of};
 ghost use Rattle.spur_pager.specs.Stand.{IsServable, entry_in};
-ghost use Rattle.spur_pager.specs.View.{telling, view_of};
+ghost use Rattle.spur_pager.specs.View.{seen};
 
 use crate::clock::run_clock;
 use crate::flush::flush_page;
@@ -27,16 +29,30 @@ pub(crate) fn finish<T: HasCache, B: Backing>(
     frame: u32,
 ) -> Result<(), Failed>
     requires own { b < length boards.old }
-    requires stands { IsServable (view_of (telling B.pages B.slot_count B.faults B.reads) (map T.lines_of boards.old) store.old) }
+    requires stands { IsServable (seen B.meaning T.lens boards.old store.old) }
     requires leaving { store.old.frames.leaving ≡ Some frame }
-    requires room { lines_of (map T.lines_of boards.old) (page_in store.old.frames frame) + entry_room ≤ store.old.history.room }
-    ensures finishes { OnOk result (Finishes b frame (view_of (telling B.pages B.slot_count B.faults B.reads) (map T.lines_of boards.old) store.old) (view_of (telling B.pages B.slot_count B.faults B.reads) (map T.lines_of boards.new) store.new)) }
-    ensures failed { OnErr result (FailsToFinish b frame (view_of (telling B.pages B.slot_count B.faults B.reads) (map T.lines_of boards.old) store.old) (view_of (telling B.pages B.slot_count B.faults B.reads) (map T.lines_of boards.new) store.new)) }
-    ensures unwritten { is_dirty (entry_in (view_of (telling B.pages B.slot_count B.faults B.reads) (map T.lines_of boards.old) store.old) (page_in store.old.frames frame)) ≡ false → store.new.backing ≡ store.old.backing }
-    ensures unread { B.reads store.new.backing ≡ B.reads store.old.backing }
-    ensures later { B.faults store.old.backing ≤ B.faults store.new.backing }
-    ensures ahead { store.new.ahead ≡ store.old.ahead }
-    ensures lens { boards.new ≡ with_caches T.with_lines boards.old (map T.lines_of boards.new) }
+    requires room {
+        lines_of (caches T.lens boards.old) (page_in store.old.frames frame) + entry_room
+            ≤ store.old.history.room
+    }
+    ensures finishes {
+        OnOk result (Finishes b frame (seen B.meaning T.lens boards.old store.old)
+            (seen B.meaning T.lens boards.new store.new))
+    }
+    ensures failed {
+        OnErr result (FailsToFinish b frame (seen B.meaning T.lens boards.old store.old)
+            (seen B.meaning T.lens boards.new store.new))
+    }
+    ensures unwritten {
+        is_dirty (entry_in
+            (seen B.meaning T.lens boards.old store.old) (page_in store.old.frames frame)) ≡ false → store.new.backing
+            ≡ store.old.backing
+    }
+    ensures counts {
+        CountsFinish frame (seen B.meaning T.lens boards.old store.old)
+            (seen B.meaning T.lens boards.new store.new)
+    }
+    ensures lens { OnlyLines T.lens boards.old boards.new }
 {
     // so that the check knows the leaving frame to be a taken one
     let _ = store.frames.frames();
@@ -50,13 +66,18 @@ pub(crate) fn finish<T: HasCache, B: Backing>(
 /// The frame whose page is leaving. Where none is, the clock chooses one.
 fn leaving_frame<T: HasCache, B: Backing>(boards: &mut [T], store: &mut Store<B>, b: u32) -> u32
     requires own { b < length boards.old }
-    requires stands { IsServable (view_of (telling B.pages B.slot_count B.faults B.reads) (map T.lines_of boards.old) store.old) }
+    requires stands { IsServable (seen B.meaning T.lens boards.old store.old) }
     requires full { least_free store.old.frames ≡ None }
-    requires room { clock_room (view_of (telling B.pages B.slot_count B.faults B.reads) (map T.lines_of boards.old) store.old) store.old.frames.leaving ≤ store.old.history.room }
-    ensures leaving { HasLeaving b (view_of (telling B.pages B.slot_count B.faults B.reads) (map T.lines_of boards.old) store.old) (view_of (telling B.pages B.slot_count B.faults B.reads) (map T.lines_of boards.new) store.new) result }
+    requires room {
+        clock_room (seen B.meaning T.lens boards.old store.old) store.old.frames.leaving
+            ≤ store.old.history.room
+    }
+    ensures leaving {
+        HasLeaving b (seen B.meaning T.lens boards.old store.old)
+            (seen B.meaning T.lens boards.new store.new) result
+    }
     ensures backing { store.new.backing ≡ store.old.backing }
-    ensures ahead { store.new.ahead ≡ store.old.ahead }
-    ensures lens { boards.new ≡ with_caches T.with_lines boards.old (map T.lines_of boards.new) }
+    ensures lens { OnlyLines T.lens boards.old boards.new }
 {
     // so that the check knows that there are frames
     let _ = store.frames.frames();
@@ -78,15 +99,25 @@ pub(crate) fn free_frame<T: HasCache, B: Backing>(
     b: u32,
 ) -> Result<u32, Failed>
     requires own { b < length boards.old }
-    requires stands { IsServable (view_of (telling B.pages B.slot_count B.faults B.reads) (map T.lines_of boards.old) store.old) }
-    requires room { free_room (view_of (telling B.pages B.slot_count B.faults B.reads) (map T.lines_of boards.old) store.old) (least_free store.old.frames) ≤ store.old.history.room }
+    requires stands { IsServable (seen B.meaning T.lens boards.old store.old) }
+    requires room {
+        free_room (seen B.meaning T.lens boards.old store.old) (least_free store.old.frames)
+            ≤ store.old.history.room
+    }
     ensures unused { IsSome (least_free store.old.frames) → store.new.backing ≡ store.old.backing }
-    ensures free { IfOk result (λ frame. Frees b (view_of (telling B.pages B.slot_count B.faults B.reads) (map T.lines_of boards.old) store.old) (view_of (telling B.pages B.slot_count B.faults B.reads) (map T.lines_of boards.new) store.new) frame) }
-    ensures failed { OnErr result (FailsToFree b (view_of (telling B.pages B.slot_count B.faults B.reads) (map T.lines_of boards.old) store.old) (view_of (telling B.pages B.slot_count B.faults B.reads) (map T.lines_of boards.new) store.new)) }
-    ensures unread { B.reads store.new.backing ≡ B.reads store.old.backing }
-    ensures later { B.faults store.old.backing ≤ B.faults store.new.backing }
-    ensures ahead { store.new.ahead ≡ store.old.ahead }
-    ensures lens { boards.new ≡ with_caches T.with_lines boards.old (map T.lines_of boards.new) }
+    ensures free {
+        IfOk result (λ frame. Frees b (seen B.meaning T.lens boards.old store.old)
+            (seen B.meaning T.lens boards.new store.new) frame)
+    }
+    ensures failed {
+        OnErr result (FailsToFree b (seen B.meaning T.lens boards.old store.old)
+            (seen B.meaning T.lens boards.new store.new))
+    }
+    ensures counts {
+        CountsFreeing (seen B.meaning T.lens boards.old store.old)
+            (seen B.meaning T.lens boards.new store.new)
+    }
+    ensures lens { OnlyLines T.lens boards.old boards.new }
 {
     if let Some(frame) = store.frames.free_one() {
         return Ok(frame);

@@ -1,6 +1,7 @@
 //! The lines of a leaving page are flushed.
 
-ghost use Rattle.std.specs.Prelude.{◌≡◌, ◌+◌, ◌<◌, ◌≤◌, IsSome, Some, length, map};
+ghost use Rattle.std.specs.Prelude.{◌≡◌, ◌+◌, ◌<◌, ◌≤◌, IsSome, Some, length};
+ghost use Rattle.spur_cache.specs.Lens.{OnlyLines, caches};
 ghost use Rattle.std.specs.Option.{option_map};
 ghost use Rattle.spur_cache.specs.Lines.{line_at};
 ghost use Rattle.spur_flat.specs.TagRules.{is_alive};
@@ -8,10 +9,9 @@ ghost use Rattle.spur_bus.specs.Calls.{HasLine};
 ghost use Rattle.spur_walk.specs.Tables.{block_address};
 ghost use Rattle.spur_pager.specs.Drops.{DropsBlock, FlushesPage, IsLeavingBlock, IsLeavingPage};
 ghost use Rattle.spur_pager.specs.Flushes.{AreFlushed, IsFlushing};
-ghost use Rattle.spur_pager.specs.Lens.{with_caches};
 ghost use Rattle.spur_pager.specs.Room.{lines_of};
 ghost use Rattle.spur_pager.specs.Stand.{IsServable};
-ghost use Rattle.spur_pager.specs.View.{telling, view_of};
+ghost use Rattle.spur_pager.specs.View.{seen};
 
 use crate::page::page_address;
 use crate::store::Store;
@@ -29,14 +29,16 @@ pub(crate) fn flush_page<T: HasCache, B: Backing>(
     page: u32,
 )
     requires own { b < length boards.old }
-    requires stands { IsServable (view_of (telling B.pages B.slot_count B.faults B.reads) (map T.lines_of boards.old) store.old) }
-    requires leaving { IsLeavingPage (view_of (telling B.pages B.slot_count B.faults B.reads) (map T.lines_of boards.old) store.old) page }
-    requires room { lines_of (map T.lines_of boards.old) page ≤ store.old.history.room }
-    ensures flushes { FlushesPage b page (view_of (telling B.pages B.slot_count B.faults B.reads) (map T.lines_of boards.old) store.old) (view_of (telling B.pages B.slot_count B.faults B.reads) (map T.lines_of boards.new) store.new) }
+    requires stands { IsServable (seen B.meaning T.lens boards.old store.old) }
+    requires leaving { IsLeavingPage (seen B.meaning T.lens boards.old store.old) page }
+    requires room { lines_of (caches T.lens boards.old) page ≤ store.old.history.room }
+    ensures flushes {
+        FlushesPage b page (seen B.meaning T.lens boards.old store.old)
+            (seen B.meaning T.lens boards.new store.new)
+    }
     ensures frames { store.new.frames ≡ store.old.frames }
     ensures backing { store.new.backing ≡ store.old.backing }
-    ensures ahead { store.new.ahead ≡ store.old.ahead }
-    ensures lens { boards.new ≡ with_caches T.with_lines boards.old (map T.lines_of boards.new) }
+    ensures lens { OnlyLines T.lens boards.old boards.new }
 {
     for holder in 0..boards.len() as u32 {
         flush_cache(boards, store, b, holder, page);
@@ -53,16 +55,18 @@ fn flush_cache<T: HasCache, B: Backing>(
 )
     requires own { b < length boards.old }
     requires holder { holder < length boards.old }
-    requires stands { IsServable (view_of (telling B.pages B.slot_count B.faults B.reads) (map T.lines_of boards.old) store.old) }
-    requires leaving { IsLeavingPage (view_of (telling B.pages B.slot_count B.faults B.reads) (map T.lines_of boards.old) store.old) page }
-    requires room { lines_of (map T.lines_of boards.old) page ≤ store.old.history.room }
-    requires before { AreFlushed (map T.lines_of boards.old) holder page }
-    ensures flushing { IsFlushing b page (view_of (telling B.pages B.slot_count B.faults B.reads) (map T.lines_of boards.old) store.old) (view_of (telling B.pages B.slot_count B.faults B.reads) (map T.lines_of boards.new) store.new) }
-    ensures done { AreFlushed (map T.lines_of boards.new) (holder + 1) page }
+    requires stands { IsServable (seen B.meaning T.lens boards.old store.old) }
+    requires leaving { IsLeavingPage (seen B.meaning T.lens boards.old store.old) page }
+    requires room { lines_of (caches T.lens boards.old) page ≤ store.old.history.room }
+    requires before { AreFlushed (caches T.lens boards.old) holder page }
+    ensures flushing {
+        IsFlushing b page (seen B.meaning T.lens boards.old store.old)
+            (seen B.meaning T.lens boards.new store.new)
+    }
+    ensures done { AreFlushed (caches T.lens boards.new) (holder + 1) page }
     ensures frames { store.new.frames ≡ store.old.frames }
     ensures backing { store.new.backing ≡ store.old.backing }
-    ensures ahead { store.new.ahead ≡ store.old.ahead }
-    ensures lens { boards.new ≡ with_caches T.with_lines boards.old (map T.lines_of boards.new) }
+    ensures lens { OnlyLines T.lens boards.old boards.new }
 {
     let numbers = boards[holder as usize]
         .cache()
@@ -99,15 +103,17 @@ pub(crate) fn flush_block<T: HasCache, B: Backing>(
 )
     requires own { b < length boards.old }
     requires holder { holder < length boards.old }
-    requires stands { IsServable (view_of (telling B.pages B.slot_count B.faults B.reads) (map T.lines_of boards.old) store.old) }
-    requires there { HasLine (map T.lines_of boards.old) holder at is_alive }
-    requires leaving { IsLeavingBlock (view_of (telling B.pages B.slot_count B.faults B.reads) (map T.lines_of boards.old) store.old) at }
+    requires stands { IsServable (seen B.meaning T.lens boards.old store.old) }
+    requires there { HasLine (caches T.lens boards.old) holder at is_alive }
+    requires leaving { IsLeavingBlock (seen B.meaning T.lens boards.old store.old) at }
     requires room { 1 ≤ store.old.history.room }
-    ensures drops { DropsBlock b holder at (view_of (telling B.pages B.slot_count B.faults B.reads) (map T.lines_of boards.old) store.old) (view_of (telling B.pages B.slot_count B.faults B.reads) (map T.lines_of boards.new) store.new) }
+    ensures drops {
+        DropsBlock b holder at (seen B.meaning T.lens boards.old store.old)
+            (seen B.meaning T.lens boards.new store.new)
+    }
     ensures frames { store.new.frames ≡ store.old.frames }
     ensures backing { store.new.backing ≡ store.old.backing }
-    ensures ahead { store.new.ahead ≡ store.old.ahead }
-    ensures lens { boards.new ≡ with_caches T.with_lines boards.old (map T.lines_of boards.new) }
+    ensures lens { OnlyLines T.lens boards.old boards.new }
 {
     let entry = block_flush(boards, &mut store.phys, b, holder, at);
     store.history.append(entry);

@@ -1,17 +1,17 @@
 //! One bit of the entry of a page is set or cleared.
 
-ghost use Rattle.std.specs.Prelude.{[], ◌≡◌, ◌+◌, ◌<◌, ◌≤◌, ◌∷◌, Ok, length, map};
+ghost use Rattle.std.specs.Prelude.{[], ◌≡◌, ◌+◌, ◌<◌, ◌≤◌, ◌∷◌, Ok, length};
+ghost use Rattle.spur_cache.specs.Lens.{OnlyLines};
 ghost use Rattle.spur_addr.specs.Address.{table_start};
 ghost use Rattle.spur_flat.specs.declared.access.FaultKind.TheVariants as kind;
 ghost use Rattle.spur_pager.specs.Acts.{Writes};
 ghost use Rattle.spur_pager.specs.Changes.{changed, entry_for};
-ghost use Rattle.spur_pager.specs.Lens.{with_caches};
 ghost use Rattle.spur_pager.specs.Marks.{IsMarked, MayMark};
 ghost use Rattle.spur_pager.specs.Room.{entry_room};
 ghost use Rattle.spur_pager.specs.Runs.{Runs};
 ghost use Rattle.spur_pager.specs.Served.{HasFault, ServesAs};
 ghost use Rattle.spur_pager.specs.Stand.{IsServable};
-ghost use Rattle.spur_pager.specs.View.{telling, view_of};
+ghost use Rattle.spur_pager.specs.View.{seen};
 
 use crate::change::Change;
 use crate::entry::change_entry;
@@ -29,16 +29,22 @@ pub(crate) fn mark<T: HasCache, B: Backing>(
     page: GlobalAddr,
     change: Change,
 )
-    requires stands { IsServable (view_of (telling B.pages B.slot_count B.faults B.reads) (map T.lines_of boards.old) store.old) }
-    requires may { MayMark (view_of (telling B.pages B.slot_count B.faults B.reads) (map T.lines_of boards.old) store.old) b page change }
+    requires stands { IsServable (seen B.meaning T.lens boards.old store.old) }
+    requires may { MayMark (seen B.meaning T.lens boards.old store.old) b page change }
     requires room { entry_room ≤ store.old.history.room }
-    ensures runs { Runs b (Writes page (entry_for change b page) (changed change) ∷ []) (view_of (telling B.pages B.slot_count B.faults B.reads) (map T.lines_of boards.old) store.old) (view_of (telling B.pages B.slot_count B.faults B.reads) (map T.lines_of boards.new) store.new) }
-    ensures marked { IsMarked b page change (view_of (telling B.pages B.slot_count B.faults B.reads) (map T.lines_of boards.old) store.old) (view_of (telling B.pages B.slot_count B.faults B.reads) (map T.lines_of boards.new) store.new) }
+    ensures runs {
+        Runs b (Writes page (entry_for change b page) (changed change) ∷ [])
+            (seen B.meaning T.lens boards.old store.old)
+            (seen B.meaning T.lens boards.new store.new)
+    }
+    ensures marked {
+        IsMarked b page change (seen B.meaning T.lens boards.old store.old)
+            (seen B.meaning T.lens boards.new store.new)
+    }
     ensures used { store.old.history.room ≤ store.new.history.room + entry_room }
     ensures frames { store.new.frames ≡ store.old.frames }
     ensures backing { store.new.backing ≡ store.old.backing }
-    ensures ahead { store.new.ahead ≡ store.old.ahead }
-    ensures lens { boards.new ≡ with_caches T.with_lines boards.old (map T.lines_of boards.new) }
+    ensures lens { OnlyLines T.lens boards.old boards.new }
 {
     // so that the check knows the table's hand and leaving frame to be among its frames
     let _ = store.frames.frames();
@@ -54,13 +60,15 @@ pub(crate) fn reference<T: HasCache, B: Backing>(
 )
     requires own { b < length boards.old }
     requires user { at < table_start }
-    requires stands { IsServable (view_of (telling B.pages B.slot_count B.faults B.reads) (map T.lines_of boards.old) store.old) }
-    requires fault { HasFault (view_of (telling B.pages B.slot_count B.faults B.reads) (map T.lines_of boards.old) store.old) b kind.Reference at }
+    requires stands { IsServable (seen B.meaning T.lens boards.old store.old) }
+    requires fault { HasFault (seen B.meaning T.lens boards.old store.old) b kind.Reference at }
     requires room { entry_room ≤ store.old.history.room }
-    ensures serves { ServesAs b (view_of (telling B.pages B.slot_count B.faults B.reads) (map T.lines_of boards.old) store.old) kind.Reference at (Ok (tt {0})) (view_of (telling B.pages B.slot_count B.faults B.reads) (map T.lines_of boards.new) store.new) }
-    ensures lens { boards.new ≡ with_caches T.with_lines boards.old (map T.lines_of boards.new) }
+    ensures serves {
+        ServesAs b (seen B.meaning T.lens boards.old store.old) kind.Reference at (Ok (tt {0}))
+            (seen B.meaning T.lens boards.new store.new)
+    }
+    ensures lens { OnlyLines T.lens boards.old boards.new }
     ensures backing { store.new.backing ≡ store.old.backing }
-    ensures ahead { store.new.ahead ≡ store.old.ahead }
 {
     mark(boards, store, b, page_start(at), Change::Referenced);
 }
@@ -74,13 +82,15 @@ pub(crate) fn dirty<T: HasCache, B: Backing>(
 )
     requires own { b < length boards.old }
     requires user { at < table_start }
-    requires stands { IsServable (view_of (telling B.pages B.slot_count B.faults B.reads) (map T.lines_of boards.old) store.old) }
-    requires fault { HasFault (view_of (telling B.pages B.slot_count B.faults B.reads) (map T.lines_of boards.old) store.old) b kind.Dirty at }
+    requires stands { IsServable (seen B.meaning T.lens boards.old store.old) }
+    requires fault { HasFault (seen B.meaning T.lens boards.old store.old) b kind.Dirty at }
     requires room { entry_room ≤ store.old.history.room }
-    ensures serves { ServesAs b (view_of (telling B.pages B.slot_count B.faults B.reads) (map T.lines_of boards.old) store.old) kind.Dirty at (Ok (tt {0})) (view_of (telling B.pages B.slot_count B.faults B.reads) (map T.lines_of boards.new) store.new) }
-    ensures lens { boards.new ≡ with_caches T.with_lines boards.old (map T.lines_of boards.new) }
+    ensures serves {
+        ServesAs b (seen B.meaning T.lens boards.old store.old) kind.Dirty at (Ok (tt {0}))
+            (seen B.meaning T.lens boards.new store.new)
+    }
+    ensures lens { OnlyLines T.lens boards.old boards.new }
     ensures backing { store.new.backing ≡ store.old.backing }
-    ensures ahead { store.new.ahead ≡ store.old.ahead }
 {
     mark(boards, store, b, page_start(at), Change::Dirty);
 }

@@ -1,13 +1,13 @@
 //! A Leaving and a Missing fault are served.
 
-ghost use Rattle.std.specs.Prelude.{◌≡◌, ◌<◌, ◌≤◌, IfErr, OnOk, length, map};
+ghost use Rattle.std.specs.Prelude.{◌≡◌, ◌<◌, ◌≤◌, IfErr, OnOk, length};
+ghost use Rattle.spur_cache.specs.Lens.{OnlyLines};
 ghost use Rattle.spur_addr.specs.Address.{table_start};
 ghost use Rattle.spur_flat.specs.declared.access.FaultKind.TheVariants as kind;
-ghost use Rattle.spur_pager.specs.Lens.{with_caches};
 ghost use Rattle.spur_pager.specs.Room.{room_for};
-ghost use Rattle.spur_pager.specs.Served.{HasFault, ServesAs, StaysFor, reads_after};
+ghost use Rattle.spur_pager.specs.Served.{CountsServing, HasFault, ServesAs, StaysFor};
 ghost use Rattle.spur_pager.specs.Stand.{IsServable};
-ghost use Rattle.spur_pager.specs.View.{telling, view_of};
+ghost use Rattle.spur_pager.specs.View.{seen};
 
 use crate::bring::bring_in;
 use crate::entry::entry_here;
@@ -27,15 +27,22 @@ pub(crate) fn leaving<T: HasCache, B: Backing>(
 ) -> Result<(), ServeFault>
     requires own { b < length boards.old }
     requires user { at < table_start }
-    requires stands { IsServable (view_of (telling B.pages B.slot_count B.faults B.reads) (map T.lines_of boards.old) store.old) }
-    requires fault { HasFault (view_of (telling B.pages B.slot_count B.faults B.reads) (map T.lines_of boards.old) store.old) b kind.Leaving at }
-    requires room { room_for (view_of (telling B.pages B.slot_count B.faults B.reads) (map T.lines_of boards.old) store.old) kind.Leaving ≤ store.old.history.room }
-    ensures serves { ServesAs b (view_of (telling B.pages B.slot_count B.faults B.reads) (map T.lines_of boards.old) store.old) kind.Leaving at result (view_of (telling B.pages B.slot_count B.faults B.reads) (map T.lines_of boards.new) store.new) }
-    ensures unused { StaysFor (view_of (telling B.pages B.slot_count B.faults B.reads) (map T.lines_of boards.old) store.old) kind.Leaving store.old.backing store.new.backing }
-    ensures reads { B.reads store.new.backing ≡ reads_after (B.reads store.old.backing) kind.Leaving result }
-    ensures later { B.faults store.old.backing ≤ B.faults store.new.backing }
-    ensures ahead { store.new.ahead ≡ store.old.ahead }
-    ensures lens { boards.new ≡ with_caches T.with_lines boards.old (map T.lines_of boards.new) }
+    requires stands { IsServable (seen B.meaning T.lens boards.old store.old) }
+    requires fault { HasFault (seen B.meaning T.lens boards.old store.old) b kind.Leaving at }
+    requires room { room_for (seen B.meaning T.lens boards.old store.old) kind.Leaving ≤ store.old.history.room }
+    ensures serves {
+        ServesAs b (seen B.meaning T.lens boards.old store.old) kind.Leaving at result
+            (seen B.meaning T.lens boards.new store.new)
+    }
+    ensures unused {
+        StaysFor
+            (seen B.meaning T.lens boards.old store.old) kind.Leaving store.old.backing store.new.backing
+    }
+    ensures counts {
+        CountsServing (seen B.meaning T.lens boards.old store.old) kind.Leaving result
+            (seen B.meaning T.lens boards.new store.new)
+    }
+    ensures lens { OnlyLines T.lens boards.old boards.new }
 {
     let Some(frame) = store.frames.leaving() else {
         unreachable!();
@@ -56,14 +63,18 @@ pub(crate) fn missing<T: HasCache, B: Backing>(
 ) -> Result<(), ServeFault>
     requires own { b < length boards.old }
     requires user { at < table_start }
-    requires stands { IsServable (view_of (telling B.pages B.slot_count B.faults B.reads) (map T.lines_of boards.old) store.old) }
-    requires fault { HasFault (view_of (telling B.pages B.slot_count B.faults B.reads) (map T.lines_of boards.old) store.old) b kind.Missing at }
-    requires room { room_for (view_of (telling B.pages B.slot_count B.faults B.reads) (map T.lines_of boards.old) store.old) kind.Missing ≤ store.old.history.room }
-    ensures serves { ServesAs b (view_of (telling B.pages B.slot_count B.faults B.reads) (map T.lines_of boards.old) store.old) kind.Missing at result (view_of (telling B.pages B.slot_count B.faults B.reads) (map T.lines_of boards.new) store.new) }
-    ensures reads { B.reads store.new.backing ≡ reads_after (B.reads store.old.backing) kind.Missing result }
-    ensures later { B.faults store.old.backing ≤ B.faults store.new.backing }
-    ensures ahead { store.new.ahead ≡ store.old.ahead }
-    ensures lens { boards.new ≡ with_caches T.with_lines boards.old (map T.lines_of boards.new) }
+    requires stands { IsServable (seen B.meaning T.lens boards.old store.old) }
+    requires fault { HasFault (seen B.meaning T.lens boards.old store.old) b kind.Missing at }
+    requires room { room_for (seen B.meaning T.lens boards.old store.old) kind.Missing ≤ store.old.history.room }
+    ensures serves {
+        ServesAs b (seen B.meaning T.lens boards.old store.old) kind.Missing at result
+            (seen B.meaning T.lens boards.new store.new)
+    }
+    ensures counts {
+        CountsServing (seen B.meaning T.lens boards.old store.old) kind.Missing result
+            (seen B.meaning T.lens boards.new store.new)
+    }
+    ensures lens { OnlyLines T.lens boards.old boards.new }
 {
     let slot = entry_here(boards[b as usize].cache(), at).number();
     let Ok(frame) = free_frame(boards, store, b) else {

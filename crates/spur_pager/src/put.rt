@@ -1,14 +1,16 @@
 //! A page goes out to swap.
 
-ghost use Rattle.std.specs.Prelude.{◌≡◌, ◌+◌, ◌*◌, ◌<◌, ◌≤◌, OnErr, OnOk, false, length, map};
-ghost use Rattle.spur_phys.specs.Pages.{page_at};
+ghost use Rattle.std.specs.Prelude.{◌≡◌, ◌+◌, ◌*◌, ◌<◌, ◌≤◌, OnErr, OnOk, false, length};
+ghost use Rattle.spur_cache.specs.Lens.{OnlyLines};
+ghost use Rattle.spur_addr.specs.Pages.{page_at};
+ghost use Rattle.spur_swap.specs.Meaning.{SameButFaults, after_write};
 ghost use Rattle.spur_swap.specs.Told.{told_with};
+ghost use Rattle.spur_pager.specs.Counts.{CountsOut};
 ghost use Rattle.spur_addr.specs.PageEntry.{is_dirty};
-ghost use Rattle.spur_pager.specs.Lens.{with_caches};
 ghost use Rattle.spur_pager.specs.Moves.{FailsToGoOut, GoesOut, MayGoOut};
 ghost use Rattle.spur_pager.specs.Room.{entry_room};
 ghost use Rattle.spur_pager.specs.Stand.{IsServable, entry_in};
-ghost use Rattle.spur_pager.specs.View.{telling, view_of};
+ghost use Rattle.spur_pager.specs.View.{seen};
 
 use crate::change::Change;
 use crate::entry::change_entry;
@@ -31,16 +33,26 @@ pub(crate) fn put_out<T: HasCache, B: Backing>(
     page: u32,
     slot: u32,
 ) -> Result<(), Failed>
-    requires stands { IsServable (view_of (telling B.pages B.slot_count B.faults B.reads) (map T.lines_of boards.old) store.old) }
-    requires may { MayGoOut (view_of (telling B.pages B.slot_count B.faults B.reads) (map T.lines_of boards.old) store.old) b frame page slot }
+    requires stands { IsServable (seen B.meaning T.lens boards.old store.old) }
+    requires may { MayGoOut (seen B.meaning T.lens boards.old store.old) b frame page slot }
     requires room { entry_room ≤ store.old.history.room }
-    ensures out { OnOk result (GoesOut b frame page slot (view_of (telling B.pages B.slot_count B.faults B.reads) (map T.lines_of boards.old) store.old) (view_of (telling B.pages B.slot_count B.faults B.reads) (map T.lines_of boards.new) store.new)) }
-    ensures failed { OnErr result (FailsToGoOut page (view_of (telling B.pages B.slot_count B.faults B.reads) (map T.lines_of boards.old) store.old) (view_of (telling B.pages B.slot_count B.faults B.reads) (map T.lines_of boards.new) store.new)) }
-    ensures unwritten { is_dirty (entry_in (view_of (telling B.pages B.slot_count B.faults B.reads) (map T.lines_of boards.old) store.old) page) ≡ false → store.new.backing ≡ store.old.backing }
-    ensures unread { B.reads store.new.backing ≡ B.reads store.old.backing }
-    ensures later { B.faults store.old.backing ≤ B.faults store.new.backing }
-    ensures ahead { store.new.ahead ≡ store.old.ahead }
-    ensures lens { boards.new ≡ with_caches T.with_lines boards.old (map T.lines_of boards.new) }
+    ensures out {
+        OnOk result (GoesOut b frame page slot (seen B.meaning T.lens boards.old store.old)
+            (seen B.meaning T.lens boards.new store.new))
+    }
+    ensures failed {
+        OnErr result (FailsToGoOut page (seen B.meaning T.lens boards.old store.old)
+            (seen B.meaning T.lens boards.new store.new))
+    }
+    ensures unwritten {
+        is_dirty (entry_in (seen B.meaning T.lens boards.old store.old) page) ≡ false → store.new.backing
+            ≡ store.old.backing
+    }
+    ensures counts {
+        CountsOut page (seen B.meaning T.lens boards.old store.old)
+            (seen B.meaning T.lens boards.new store.new)
+    }
+    ensures lens { OnlyLines T.lens boards.old boards.new }
 {
     let at = page_address(page);
     if standing_entry(boards, &store.phys, at).dirty() {
@@ -61,13 +73,17 @@ pub(crate) fn put_out<T: HasCache, B: Backing>(
 /// Writes the words of a frame to a slot of the swap.
 fn save_page<B: Backing>(phys: &Phys, backing: &mut B, frame: u32, slot: u32) -> Result<(), Failed>
     requires frame { frame * 1024 + 1024 ≤ length phys.now }
-    requires slot { slot < B.slot_count backing.old }
-    ensures put { OnOk result (B.pages backing.new ≡ told_with (B.pages backing.old) slot (page_at phys.now (frame * 1024))) }
-    ensures pages_stay { OnErr result (B.pages backing.new ≡ B.pages backing.old) }
-    ensures slots_stay { B.slot_count backing.new ≡ B.slot_count backing.old }
-    ensures unread { B.reads backing.new ≡ B.reads backing.old }
-    ensures later { B.faults backing.old ≤ B.faults backing.new }
-    ensures cause { OnErr result (B.faults backing.old < B.faults backing.new) }
+    requires slot { slot < (B.meaning backing.old).slots }
+    ensures put {
+        OnOk result
+            ((B.meaning backing.new).pages ≡ told_with (B.meaning backing.old).pages slot (page_at phys.now frame))
+    }
+    ensures pages_stay { OnErr result ((B.meaning backing.new).pages ≡ (B.meaning backing.old).pages) }
+    ensures stays {
+        SameButFaults (after_write (B.meaning backing.old) (B.meaning backing.new).pages) (B.meaning backing.new)
+    }
+    ensures later { (B.meaning backing.old).faults ≤ (B.meaning backing.new).faults }
+    ensures cause { OnErr result ((B.meaning backing.old).faults < (B.meaning backing.new).faults) }
 {
     let mut page = [0; 1024];
     phys.read_page(frame, &mut page);

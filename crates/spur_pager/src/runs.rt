@@ -2,7 +2,7 @@
 
 ghost use Rattle.std.specs.Prelude.{◌≡◌, ◌<◌, ◌^◌, length, map};
 ghost use Rattle.spur_pager.specs.Bench.{IsBench};
-ghost use Rattle.spur_pager.specs.View.{telling, view_of};
+ghost use Rattle.spur_pager.specs.View.{view_of};
 
 use crate::bench::{Page, Seen, Step, looked, machine, make_step, served, slot_words};
 use crate::fault::ServeFault;
@@ -40,16 +40,9 @@ struct Silent {
 
 impl Backing for Silent {
     ghost use Rattle.std.specs.Prelude.{None};
-    ghost use Rattle.spur_swap.specs.Kept.{faults_of};
-    ghost use Rattle.spur_swap.specs.Pages.{slots_of};
+    ghost use Rattle.spur_swap.specs.Kept.{as_swap};
 
-    ghost pages = { λ s. None };
-
-    ghost slot_count = { λ s. slots_of s.kept.words };
-
-    ghost faults = { λ s. faults_of s.kept };
-
-    ghost reads = { λ s. s.kept.reads.made };
+    ghost meaning = { λ s. record (as_swap s.kept) { pages = None } };
 
     fn prepare(&mut self, slots: u32) -> Result<(), PrepareFault> {
         self.kept.prepare(slots)
@@ -213,8 +206,8 @@ fn make_call<B: Backing>(
     store: &mut Store<B>,
     call: Call,
 ) -> Result<(), Fail>
-    requires bench { IsBench (view_of (telling B.pages B.slot_count B.faults B.reads) (map (λ lines. lines) boards.old) store.old) }
-    ensures bench { IsBench (view_of (telling B.pages B.slot_count B.faults B.reads) (map (λ lines. lines) boards.new) store.new) }
+    requires bench { IsBench (view_of B.meaning (map (λ lines. lines) boards.old) store.old) }
+    ensures bench { IsBench (view_of B.meaning (map (λ lines. lines) boards.new) store.new) }
     ensures count { length boards.new ≡ length boards.old }
 {
     let [first, second, third] = call.before;
@@ -235,8 +228,8 @@ fn follow<B: Backing>(
     store: &mut Store<B>,
     run: &Run,
 ) -> Result<(), Fail>
-    requires bench { IsBench (view_of (telling B.pages B.slot_count B.faults B.reads) (map (λ lines. lines) boards.old) store.old) }
-    ensures slots { B.slot_count store.new.backing ≡ 4 }
+    requires bench { IsBench (view_of B.meaning (map (λ lines. lines) boards.old) store.old) }
+    ensures slots { (B.meaning store.new.backing).slots ≡ 4 }
 {
     for call in run.calls {
         make_call(rt, boards, store, *call)?;

@@ -1,12 +1,12 @@
 //! A fault of an access is served.
 
-ghost use Rattle.std.specs.Prelude.{◌≡◌, ◌<◌, ◌≤◌, IfErr, OnOk, length, map};
+ghost use Rattle.std.specs.Prelude.{◌≡◌, ◌<◌, ◌≤◌, IfErr, OnOk, length};
+ghost use Rattle.spur_cache.specs.Lens.{OnlyLines};
 ghost use Rattle.spur_addr.specs.Address.{table_start};
-ghost use Rattle.spur_pager.specs.Lens.{with_caches};
 ghost use Rattle.spur_pager.specs.Room.{room_for};
-ghost use Rattle.spur_pager.specs.Served.{IsCarriedOn, Does, HasFailed, HasFault, IsServed, Keeps, StaysFor, reads_after};
+ghost use Rattle.spur_pager.specs.Served.{CountsServing, IsCarriedOn, Does, HasFailed, HasFault, IsServed, Keeps, StaysFor};
 ghost use Rattle.spur_pager.specs.Stand.{IsServable};
-ghost use Rattle.spur_pager.specs.View.{telling, view_of};
+ghost use Rattle.spur_pager.specs.View.{seen};
 
 use crate::fault::ServeFault;
 use crate::mark::{dirty, reference};
@@ -50,20 +50,33 @@ pub fn serve<T: HasCache, B: Backing>(
 ) -> Result<(), ServeFault>
     requires own { b < length boards.old }
     requires user { at < table_start }
-    requires stands { IsServable (view_of (telling B.pages B.slot_count B.faults B.reads) (map T.lines_of boards.old) store.old) }
-    requires fault { HasFault (view_of (telling B.pages B.slot_count B.faults B.reads) (map T.lines_of boards.old) store.old) b kind at }
-    requires room { room_for (view_of (telling B.pages B.slot_count B.faults B.reads) (map T.lines_of boards.old) store.old) kind ≤ store.old.history.room }
-    ensures does { Does b (view_of (telling B.pages B.slot_count B.faults B.reads) (map T.lines_of boards.old) store.old) kind at result (view_of (telling B.pages B.slot_count B.faults B.reads) (map T.lines_of boards.new) store.new) }
-    ensures carried { IsCarriedOn (view_of (telling B.pages B.slot_count B.faults B.reads) (map T.lines_of boards.old) store.old) (view_of (telling B.pages B.slot_count B.faults B.reads) (map T.lines_of boards.new) store.new) }
-    ensures ok { OnOk result (IsServed b (view_of (telling B.pages B.slot_count B.faults B.reads) (map T.lines_of boards.old) store.old) kind at (view_of (telling B.pages B.slot_count B.faults B.reads) (map T.lines_of boards.new) store.new)) }
-    ensures err { IfErr result (λ why. HasFailed b (view_of (telling B.pages B.slot_count B.faults B.reads) (map T.lines_of boards.old) store.old) kind at (view_of (telling B.pages B.slot_count B.faults B.reads) (map T.lines_of boards.new) store.new) why) }
+    requires stands { IsServable (seen B.meaning T.lens boards.old store.old) }
+    requires fault { HasFault (seen B.meaning T.lens boards.old store.old) b kind at }
+    requires room { room_for (seen B.meaning T.lens boards.old store.old) kind ≤ store.old.history.room }
+    ensures does {
+        Does b (seen B.meaning T.lens boards.old store.old) kind at result
+            (seen B.meaning T.lens boards.new store.new)
+    }
+    ensures carried {
+        IsCarriedOn (seen B.meaning T.lens boards.old store.old)
+            (seen B.meaning T.lens boards.new store.new)
+    }
+    ensures ok {
+        OnOk result (IsServed b (seen B.meaning T.lens boards.old store.old) kind at
+            (seen B.meaning T.lens boards.new store.new))
+    }
+    ensures err {
+        IfErr result (λ why. HasFailed b (seen B.meaning T.lens boards.old store.old) kind at
+            (seen B.meaning T.lens boards.new store.new) why)
+    }
     ensures boards { length boards.new ≡ length boards.old }
-    ensures keeps { Keeps (view_of (telling B.pages B.slot_count B.faults B.reads) (map T.lines_of boards.old) store.old) (view_of (telling B.pages B.slot_count B.faults B.reads) (map T.lines_of boards.new) store.new) }
-    ensures lens { boards.new ≡ with_caches T.with_lines boards.old (map T.lines_of boards.new) }
-    ensures reads { B.reads store.new.backing ≡ reads_after (B.reads store.old.backing) kind result }
-    ensures later { B.faults store.old.backing ≤ B.faults store.new.backing }
-    ensures unused { StaysFor (view_of (telling B.pages B.slot_count B.faults B.reads) (map T.lines_of boards.old) store.old) kind store.old.backing store.new.backing }
-    ensures ahead { store.new.ahead ≡ store.old.ahead }
+    ensures keeps { Keeps (seen B.meaning T.lens boards.old store.old) (seen B.meaning T.lens boards.new store.new) }
+    ensures lens { OnlyLines T.lens boards.old boards.new }
+    ensures counts {
+        CountsServing (seen B.meaning T.lens boards.old store.old) kind result
+            (seen B.meaning T.lens boards.new store.new)
+    }
+    ensures unused { StaysFor (seen B.meaning T.lens boards.old store.old) kind store.old.backing store.new.backing }
 {
     match kind {
         FaultKind::Reference => {

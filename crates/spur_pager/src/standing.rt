@@ -1,6 +1,7 @@
 //! The entry of a page, read without the bus.
 
-ghost use Rattle.std.specs.Prelude.{◌≡◌, ◌<◌, length, map, slice_index, true};
+ghost use Rattle.std.specs.Prelude.{◌≡◌, ◌<◌, length, slice_index, true};
+ghost use Rattle.spur_cache.specs.Lens.{caches};
 ghost use Rattle.spur_addr.specs.Address.{root_index_of, table_start};
 ghost use Rattle.spur_addr.specs.PageEntry.{is_valid};
 ghost use Rattle.spur_flat.specs.Pager.{word_of};
@@ -16,10 +17,10 @@ use spur_phys::Phys;
 /// is given by its first byte, and its root entry is valid.
 pub(crate) fn standing_entry<T: HasCache>(boards: &[T], phys: &Phys, page: GlobalAddr) -> Pte
     requires user { page < table_start }
-    requires walk { MayWalk (map T.lines_of boards.now) phys.now }
-    requires present { ArePresent (logical_flat (map T.lines_of boards.now) phys.now) (map T.lines_of boards.now) }
-    requires root { is_valid (root_at (logical_flat (map T.lines_of boards.now) phys.now) page) ≡ true }
-    ensures { result ≡ word_of (logical_flat (map T.lines_of boards.now) phys.now) page }
+    requires walk { MayWalk (caches T.lens boards.now) phys.now }
+    requires present { ArePresent (logical_flat (caches T.lens boards.now) phys.now) (caches T.lens boards.now) }
+    requires root { is_valid (root_at (logical_flat (caches T.lens boards.now) phys.now) page) ≡ true }
+    ensures { result ≡ word_of (logical_flat (caches T.lens boards.now) phys.now) page }
 {
     match Pte::read(standing_word(boards, phys, page)) {
         Ok(entry) => entry,
@@ -30,10 +31,10 @@ pub(crate) fn standing_entry<T: HasCache>(boards: &[T], phys: &Phys, page: Globa
 /// The word of that entry.
 fn standing_word<T: HasCache>(boards: &[T], phys: &Phys, page: GlobalAddr) -> u32
     requires user { page < table_start }
-    requires walk { MayWalk (map T.lines_of boards.now) phys.now }
-    requires present { ArePresent (logical_flat (map T.lines_of boards.now) phys.now) (map T.lines_of boards.now) }
-    requires root { is_valid (root_at (logical_flat (map T.lines_of boards.now) phys.now) page) ≡ true }
-    ensures { result ≡ word_of (logical_flat (map T.lines_of boards.now) phys.now) page }
+    requires walk { MayWalk (caches T.lens boards.now) phys.now }
+    requires present { ArePresent (logical_flat (caches T.lens boards.now) phys.now) (caches T.lens boards.now) }
+    requires root { is_valid (root_at (logical_flat (caches T.lens boards.now) phys.now) page) ≡ true }
+    ensures { result ≡ word_of (logical_flat (caches T.lens boards.now) phys.now) page }
 {
     match cached_word(boards, pte_of(page)) {
         Some(word) => word,
@@ -43,7 +44,7 @@ fn standing_word<T: HasCache>(boards: &[T], phys: &Phys, page: GlobalAddr) -> u3
 
 /// The word at `at` in the first cache that has its block.
 fn cached_word<T: HasCache>(boards: &[T], at: GlobalAddr) -> Option<u32>
-    ensures { result ≡ cached_word (map T.lines_of boards.now) at }
+    ensures { result ≡ cached_word (caches T.lens boards.now) at }
 {
     for board in boards {
         if let Some(line) = board.cache().find(at) {

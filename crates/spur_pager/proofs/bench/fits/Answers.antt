@@ -10,7 +10,7 @@ returns-clause-made g c last =
     let to_2 = sym c.slot_fits-3.ensures.pages ∙ to_3 in
     let to_1 = sym c.slot_fits-2.ensures.pages ∙ to_2 in
     let to_0 = sym c.slot_fits.ensures.pages ∙ to_1 in
-    made_of memory c.args.frames.now (g.B.Backing.pages c.slot_fits-4.new.backing) c.requires.phys (c.are_tables.ensures c.if-not-are_tables.false)
+    made_of memory c.args.frames.now ((g.B.Backing.meaning c.slot_fits-4.new.backing).pages) c.requires.phys (c.are_tables.ensures c.if-not-are_tables.false)
     (c.entry_fits.ensures c.if-not-entry_fits.false) (c.entry_fits-else-not-entry_fits.ensures c.if-not-entry_fits-2.false)
     (c.entry_fits-else-not-entry_fits-2.ensures c.if-not-entry_fits-3.false) (c.entry_fits-else-not-entry_fits-3.ensures c.if-not-entry_fits-4.false)
     c.requires.first c.requires.count c.frames.ensures.table

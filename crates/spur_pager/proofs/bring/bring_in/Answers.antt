@@ -1,40 +1,39 @@
 use Rattle.std.proofs.Common.{ℕ, ◌≡◌, ◌*◌, List, map, subst, sym, true}
 use Rattle.spur_addr.specs.PageEntry.{is_valid}
-use Rattle.spur_phys.specs.Pages.{with_page}
+use Rattle.spur_addr.specs.Pages.{with_page}
 use Rattle.spur_walk.specs.Present.{MayWalk}
 use Rattle.spur_walk.specs.Tables.{logical_flat, root_at}
 use Rattle.spur_pager.specs.declared.change.Change.TheVariants.{In}
 use Rattle.spur_pager.specs.Acts.{loaded_hold}
 use Rattle.spur_pager.specs.Changes.{Changes, MayChange}
 use Rattle.spur_pager.specs.Served.{hold_of}
-use Rattle.spur_pager.specs.View.{View, telling, view_of}
+use Rattle.spur_pager.specs.View.{View, seen, view_of}
 use Rattle.spur_pager.proofs.ComeFacts.{changes_may, comes, frame_room, root, slot_small, walk}
-use Rattle.spur_pager.proofs.LensFacts.{IsLens, lens_same}
+use Rattle.spur_bus.proofs.LensFacts.{only_lines-same}
 use Rattle.spur_pager.proofs.RunFacts.{past_of}
 use Rattle.spur_pager.proofs.bring.bring_in.Goals as goal
 
 pub load_page-requires-clause-slot : goal.load_page-requires-clause-slot
 load_page-requires-clause-slot g c =
-    let w : View = view_of (telling g.B.Backing.pages g.B.Backing.slot_count g.B.Backing.faults g.B.Backing.reads) (map g.T.HasCache.lines_of c.args.boards.now) c.args.store.now in
+    let w : View = seen g.B.Backing.meaning g.T.HasCache.lens c.args.boards.now c.args.store.now in
     let rest = c.requires.stands.rest in
     let st = c.requires.stands.stands in
     slot_small w c.args.b c.args.frame c.args.page c.args.slot c.requires.may rest st
 
 pub load_page-requires-clause-frame : goal.load_page-requires-clause-frame
 load_page-requires-clause-frame g c =
-    let w : View = view_of (telling g.B.Backing.pages g.B.Backing.slot_count g.B.Backing.faults g.B.Backing.reads) (map g.T.HasCache.lines_of c.args.boards.now) c.args.store.now in
+    let w : View = seen g.B.Backing.meaning g.T.HasCache.lens c.args.boards.now c.args.store.now in
     let rest = c.requires.stands.rest in
     let st = c.requires.stands.stands in
     frame_room w c.args.b c.args.frame c.args.page c.args.slot c.requires.may rest st
 
 pub returns-in_err-load_page-clause-lens : goal.returns-in_err-load_page-clause-lens
 returns-in_err-load_page-clause-lens g c =
-    let lens : IsLens g.T.HasCache.lines_of g.T.HasCache.with_lines = record { kept = g.met.T.HasCache.lines_kept; given = g.met.T.HasCache.lines_set; twice = g.met.T.HasCache.lines_twice } in
-    lens_same g.T.HasCache.lines_of g.T.HasCache.with_lines lens c.args.boards.now
+    only_lines-same g.T.HasCache.lens g.met.T.HasCache.lawful c.args.boards.now
 
 pub change_entry-requires-clause-walk : goal.change_entry-requires-clause-walk
 change_entry-requires-clause-walk g c =
-    let w : View = view_of (telling g.B.Backing.pages g.B.Backing.slot_count g.B.Backing.faults g.B.Backing.reads) (map g.T.HasCache.lines_of c.args.boards.now) c.args.store.now in
+    let w : View = seen g.B.Backing.meaning g.T.HasCache.lens c.args.boards.now c.args.store.now in
     let rest = c.requires.stands.rest in
     let st = c.requires.stands.stands in
     let l = c.in_ok-load_page.ensures.loaded in
@@ -42,17 +41,17 @@ change_entry-requires-clause-walk g c =
 
 pub change_entry-requires-clause-root : goal.change_entry-requires-clause-root
 change_entry-requires-clause-root g c =
-    let w : View = view_of (telling g.B.Backing.pages g.B.Backing.slot_count g.B.Backing.faults g.B.Backing.reads) (map g.T.HasCache.lines_of c.args.boards.now) c.args.store.now in
+    let w : View = seen g.B.Backing.meaning g.T.HasCache.lens c.args.boards.now c.args.store.now in
     let rest = c.requires.stands.rest in
     let st = c.requires.stands.stands in
     let l = c.in_ok-load_page.ensures.loaded in
     subst (λ (ws : List ℕ). is_valid (root_at (logical_flat w.caches ws) c.page_address.result) ≡ true) (sym l.memory)
-    (subst (λ (n : ℕ). is_valid (root_at (logical_flat w.caches (with_page w.memory (c.args.frame * 1024) l.words)) n) ≡ true) (sym c.page_address.ensures)
+    (subst (λ (n : ℕ). is_valid (root_at (logical_flat w.caches (with_page w.memory c.args.frame l.words)) n) ≡ true) (sym c.page_address.ensures)
     (root w c.args.b c.args.frame c.args.page c.args.slot c.requires.may l.words l.long rest st))
 
 pub change_entry-requires-clause-may : goal.change_entry-requires-clause-may
 change_entry-requires-clause-may g c =
-    let w : View = view_of (telling g.B.Backing.pages g.B.Backing.slot_count g.B.Backing.faults g.B.Backing.reads) (map g.T.HasCache.lines_of c.args.boards.now) c.args.store.now in
+    let w : View = seen g.B.Backing.meaning g.T.HasCache.lens c.args.boards.now c.args.store.now in
     let rest = c.requires.stands.rest in
     let st = c.requires.stands.stands in
     let l = c.in_ok-load_page.ensures.loaded in
@@ -62,12 +61,12 @@ change_entry-requires-clause-may g c =
 
 pub returns-clause-brought : goal.returns-clause-brought
 returns-clause-brought g c =
-    let w : View = view_of (telling g.B.Backing.pages g.B.Backing.slot_count g.B.Backing.faults g.B.Backing.reads) (map g.T.HasCache.lines_of c.args.boards.now) c.args.store.now in
+    let w : View = seen g.B.Backing.meaning g.T.HasCache.lens c.args.boards.now c.args.store.now in
     let rest = c.requires.stands.rest in
     let st = c.requires.stands.stands in
     let l = c.in_ok-load_page.ensures.loaded in
-    let v : View = view_of (telling g.B.Backing.pages g.B.Backing.slot_count g.B.Backing.faults g.B.Backing.reads) (map g.T.HasCache.lines_of c.change_entry.new.boards)
+    let v : View = seen g.B.Backing.meaning g.T.HasCache.lens c.change_entry.new.boards
     (record { phys = c.change_entry.new.phys; frames = c.take.new.self; backing = c.load_page.new.backing; history = c.change_entry.new.history; ahead = c.args.store.now.ahead }) in
     let changes = subst (λ (n : ℕ). Changes c.args.b n (In c.args.frame) (loaded_hold c.args.frame l.words (hold_of w)) (past_of w) (hold_of v) (past_of v)) c.page_address.ensures
     (subst (λ (ws : List ℕ). Changes c.args.b c.page_address.result (In c.args.frame) (record { caches = w.caches; memory = ws }) (past_of w) (hold_of v) (past_of v)) l.memory c.change_entry.ensures.changes) in
-    comes w c.args.b c.args.frame c.args.page c.args.slot c.requires.may l.words l.long v rest st c.take.ensures.taken c.frames.ensures.table c.load_page.ensures.pages_stay c.load_page.ensures.slots_stay l.told changes
+    comes w c.args.b c.args.frame c.args.page c.args.slot c.requires.may l.words l.long v rest st c.take.ensures.taken c.frames.ensures.table (ap (λ s. s.pages) c.load_page.ensures.stays) (ap (λ s. s.slots) c.load_page.ensures.stays) refl l.told changes

@@ -7,15 +7,15 @@ use Rattle.spur_pager.specs.declared.change.Change.TheVariants.{Unreferenced}
 use Rattle.spur_pager.specs.Changes.{Changes, MayChange, clock_change, word_in}
 use Rattle.spur_pager.specs.Served.{hold_of}
 use Rattle.spur_pager.specs.Stand.{page_address}
-use Rattle.spur_pager.specs.View.{View, telling, view_of}
+use Rattle.spur_pager.specs.View.{View, seen, view_of}
 use Rattle.spur_pager.proofs.LookFacts.{IsFound, chose_clear, chose_leave, look_clears, look_leaves, look_may, look_root}
 use Rattle.spur_pager.proofs.RunFacts.{past_of}
 use Rattle.spur_pager.proofs.clock.look_once.Goals as goal
 
 pub tick-change-requires-clause-root : goal.tick-change-requires-clause-root
 tick-change-requires-clause-root g c =
-    let w : View = view_of (telling g.B.Backing.pages g.B.Backing.slot_count g.B.Backing.faults g.B.Backing.reads) (map g.T.HasCache.lines_of c.args.boards.now) c.args.store.now in
-    let within = subst (λ (n : ℕ). c.args.b < n) (sym (length-map c.args.boards.now g.T.HasCache.lines_of)) c.requires.own in
+    let w : View = seen g.B.Backing.meaning g.T.HasCache.lens c.args.boards.now c.args.store.now in
+    let within = subst (λ (n : ℕ). c.args.b < n) (sym (length-map c.args.boards.now g.T.HasCache.lens.lines_of)) c.requires.own in
     let frame : ℕ = c.in-Some.frame in
     let page : ℕ = c.in-Some-holder.page in
     let slot : ℕ = c.in-Some-holder.field-0-1 in
@@ -26,8 +26,8 @@ tick-change-requires-clause-root g c =
 
 pub tick-change-requires-clause-may : goal.tick-change-requires-clause-may
 tick-change-requires-clause-may g c =
-    let w : View = view_of (telling g.B.Backing.pages g.B.Backing.slot_count g.B.Backing.faults g.B.Backing.reads) (map g.T.HasCache.lines_of c.args.boards.now) c.args.store.now in
-    let within = subst (λ (n : ℕ). c.args.b < n) (sym (length-map c.args.boards.now g.T.HasCache.lines_of)) c.requires.own in
+    let w : View = seen g.B.Backing.meaning g.T.HasCache.lens c.args.boards.now c.args.store.now in
+    let within = subst (λ (n : ℕ). c.args.b < n) (sym (length-map c.args.boards.now g.T.HasCache.lens.lines_of)) c.requires.own in
     let frame : ℕ = c.in-Some.frame in
     let page : ℕ = c.in-Some-holder.page in
     let slot : ℕ = c.in-Some-holder.field-0-1 in
@@ -38,39 +38,38 @@ tick-change-requires-clause-may g c =
 
 pub returns-in-Unreferenced-clause-looks : goal.returns-in-Unreferenced-clause-looks
 returns-in-Unreferenced-clause-looks g c =
-    let w : View = view_of (telling g.B.Backing.pages g.B.Backing.slot_count g.B.Backing.faults g.B.Backing.reads) (map g.T.HasCache.lines_of c.args.boards.now) c.args.store.now in
-    let within = subst (λ (n : ℕ). c.args.b < n) (sym (length-map c.args.boards.now g.T.HasCache.lines_of)) c.requires.own in
+    let w : View = seen g.B.Backing.meaning g.T.HasCache.lens c.args.boards.now c.args.store.now in
+    let within = subst (λ (n : ℕ). c.args.b < n) (sym (length-map c.args.boards.now g.T.HasCache.lens.lines_of)) c.requires.own in
     let frame : ℕ = c.in-Some.frame in
     let page : ℕ = c.in-Some-holder.page in
     let slot : ℕ = c.in-Some-holder.field-0-1 in
     let found : IsFound w frame page slot = record { looked = sym c.in-Some.ensures.first; taken = c.in-Some.ensures.taken; held = sym c.in-Some-holder.ensures.holder; staying = c.requires.staying } in
     let rest = c.requires.stands.rest in
     let st = c.requires.stands.stands in
-    let v : View = view_of (telling g.B.Backing.pages g.B.Backing.slot_count g.B.Backing.faults g.B.Backing.reads) (map g.T.HasCache.lines_of c.tick-change.new.boards)
+    let v : View = seen g.B.Backing.meaning g.T.HasCache.lens c.tick-change.new.boards
     (record { phys = c.tick-change.new.phys; frames = c.pass.new.self; backing = c.args.store.now.backing; history = c.tick-change.new.history; ahead = c.args.store.now.ahead }) in
     let changes = subst (λ (n : ℕ). Changes c.args.b n (clock_change (word_in (hold_of w) n)) (hold_of w) (past_of w) (hold_of v) (past_of v)) c.page_address.ensures c.tick-change.ensures.changes in
     let chosen = sym (c.tick-change.ensures.change ∙ ap (λ (n : ℕ). clock_change (word_in (hold_of w) n)) c.page_address.ensures) ∙ c.in-Unreferenced.is in
-    look_clears w c.args.b frame page slot within found v rest st (record { pages = refl; slots = refl }) (chose_clear (is_referenced (word_in (hold_of w) (page_address page))) chosen) c.pass.ensures.passed changes
+    look_clears w c.args.b frame page slot within found v rest st (record { pages = refl; slots = refl; ahead = refl }) (chose_clear (is_referenced (word_in (hold_of w) (page_address page))) chosen) c.pass.ensures.passed changes
 
 pub returns-in_default-change : goal.returns-in_default-change
 returns-in_default-change g c =
-    let w : View = view_of (telling g.B.Backing.pages g.B.Backing.slot_count g.B.Backing.faults g.B.Backing.reads) (map g.T.HasCache.lines_of c.args.boards.now) c.args.store.now in
-    let within = subst (λ (n : ℕ). c.args.b < n) (sym (length-map c.args.boards.now g.T.HasCache.lines_of)) c.requires.own in
+    let w : View = seen g.B.Backing.meaning g.T.HasCache.lens c.args.boards.now c.args.store.now in
+    let within = subst (λ (n : ℕ). c.args.b < n) (sym (length-map c.args.boards.now g.T.HasCache.lens.lines_of)) c.requires.own in
     let frame : ℕ = c.in-Some.frame in
     let page : ℕ = c.in-Some-holder.page in
     let slot : ℕ = c.in-Some-holder.field-0-1 in
     let found : IsFound w frame page slot = record { looked = sym c.in-Some.ensures.first; taken = c.in-Some.ensures.taken; held = sym c.in-Some-holder.ensures.holder; staying = c.requires.staying } in
     let rest = c.requires.stands.rest in
     let st = c.requires.stands.stands in
-    let v : View = view_of (telling g.B.Backing.pages g.B.Backing.slot_count g.B.Backing.faults g.B.Backing.reads) (map g.T.HasCache.lines_of c.tick-change.new.boards)
+    let v : View = seen g.B.Backing.meaning g.T.HasCache.lens c.tick-change.new.boards
     (record { phys = c.tick-change.new.phys; frames = c.set_leaving.new.self; backing = c.args.store.now.backing; history = c.tick-change.new.history; ahead = c.args.store.now.ahead }) in
     let changes = subst (λ (n : ℕ). Changes c.args.b n (clock_change (word_in (hold_of w) n)) (hold_of w) (past_of w) (hold_of v) (past_of v)) c.page_address.ensures c.tick-change.ensures.changes in
     let chosen = c.tick-change.ensures.change ∙ ap (λ (n : ℕ). clock_change (word_in (hold_of w) n)) c.page_address.ensures in
     let left = chose_leave (is_referenced (word_in (hold_of w) (page_address page))) (λ (h : clock_change (word_in (hold_of w) (page_address page)) ≡ Unreferenced). c.in_default-change.not-Unreferenced (chosen ∙ h)) in
     let frames = c.set_leaving.ensures.leaving ∙ ap (λ (fs : Frames). record fs { leaving = Some frame }) c.pass.ensures.passed in
     record {
-      looks = look_leaves w c.args.b frame page slot within found v rest st (record { pages = refl; slots = refl }) left frames changes;
+      looks = look_leaves w c.args.b frame page slot within found v rest st (record { pages = refl; slots = refl; ahead = refl }) left frames changes;
       backing = refl;
-      ahead = refl;
       lens = c.tick-change.ensures.lens;
     }

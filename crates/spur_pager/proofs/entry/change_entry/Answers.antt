@@ -9,12 +9,12 @@ use Rattle.spur_bus.proofs.BoardFacts.{lines_here}
 use Rattle.spur_walk.proofs.TableFacts.{entry_readable}
 use Rattle.spur_pager.specs.Changes.{changed}
 use Rattle.spur_pager.proofs.ChangeFacts.{all_changed, ready_there, ready_word, room_left, written_boards}
-use Rattle.spur_pager.proofs.LensFacts.{IsLens, lens_one, lens_then}
+use Rattle.spur_bus.proofs.LensFacts.{only_lines-then, only_lines-set}
 use Rattle.spur_pager.proofs.entry.change_entry.Goals as goal
 
 pub entry_here-entry-requires-clause-there : goal.entry_here-entry-requires-clause-there
 entry_here-entry-requires-clause-there g c =
-    let lines_of = g.T.HasCache.lines_of in
+    let lines_of = g.T.HasCache.lens.lines_of in
     let here = subst (λ (n : ℕ). c.args.b < n) (sym c.fetch.auto.boards) c.requires.own in
     let own = lines_here lines_of c.fetch.new.boards c.args.b c.index-boards-b.result here ∙ sym c.cache.ensures.lines in
     subst (λ (ls : List (Option Line)). IsSome (found ls (entry_address_of c.args.page))) own
@@ -22,7 +22,7 @@ entry_here-entry-requires-clause-there g c =
 
 pub entry_here-entry-requires-clause-readable : goal.entry_here-entry-requires-clause-readable
 entry_here-entry-requires-clause-readable g c =
-    let lines_of = g.T.HasCache.lines_of in
+    let lines_of = g.T.HasCache.lens.lines_of in
     let here = subst (λ (n : ℕ). c.args.b < n) (sym c.fetch.auto.boards) c.requires.own in
     let within = subst (λ (n : ℕ). c.args.b < n) (sym (length-map c.fetch.new.boards lines_of)) here in
     let own = lines_here lines_of c.fetch.new.boards c.args.b c.index-boards-b.result here ∙ sym c.cache.ensures.lines in
@@ -32,7 +32,7 @@ entry_here-entry-requires-clause-readable g c =
 
 pub set_line_word-requires : goal.set_line_word-requires
 set_line_word-requires g c =
-    let lines_of = g.T.HasCache.lines_of in
+    let lines_of = g.T.HasCache.lens.lines_of in
     let here = subst (λ (n : ℕ). c.args.b < n) (sym c.fetch.auto.boards) c.requires.own in
     let own = lines_here lines_of c.fetch.new.boards c.args.b c.index-boards-b-2.result here in
     subst (λ (n : ℕ). IsSome (found (lines_of (get_or c.fetch.new.boards c.args.b c.index-boards-b-2.result)) n)) (sym c.pte_of.ensures.value)
@@ -41,12 +41,12 @@ set_line_word-requires g c =
 
 pub append-requires : goal.append-requires
 append-requires g c =
-    room_left c.args.b c.args.page (record { caches = map g.T.HasCache.lines_of c.args.boards.now; memory = c.args.phys.now }) (record { caches = map g.T.HasCache.lines_of c.fetch.new.boards; memory = c.fetch.new.phys })
+    room_left c.args.b c.args.page (record { caches = map g.T.HasCache.lens.lines_of c.args.boards.now; memory = c.args.phys.now }) (record { caches = map g.T.HasCache.lens.lines_of c.fetch.new.boards; memory = c.fetch.new.phys })
     c.args.history.now c.fetch.new.history c.requires.room c.fetch.ensures.fetches
 
 pub returns-clause-changes : goal.returns-clause-changes
 returns-clause-changes g c =
-    let lines_of = g.T.HasCache.lines_of in
+    let lines_of = g.T.HasCache.lens.lines_of in
     let news = c.fetch.new.boards in
     let at = entry_address_of c.args.page in
     let here = subst (λ (n : ℕ). c.args.b < n) (sym c.fetch.auto.boards) c.requires.own in
@@ -56,18 +56,17 @@ returns-clause-changes g c =
     let read = c.entry_here-entry.ensures ∙ ap (λ (ls : List (Option Line)). word_in (found ls at) at) (sym own)
     ∙ ready_word (map lines_of news) c.fetch.new.phys c.args.b c.args.page c.fetch.ensures.fetches.leads.walk within_new c.requires.user c.fetch.ensures.fetches.fetch.ready in
     let word = c.word.ensures.value ∙ c.changed.ensures ∙ ap (changed c.args.change) read in
-    let caches = written_boards lines_of g.T.HasCache.with_lines g.met.T.HasCache.lines_set news c.args.b c.args.page c.pte_of.result c.word.result c.index-boards-b-2.result c.set_line_word.new.self here c.pte_of.ensures.value c.set_line_word.ensures in
+    let caches = written_boards lines_of g.T.HasCache.lens.with_lines g.met.T.HasCache.lawful.set news c.args.b c.args.page c.pte_of.result c.word.result c.index-boards-b-2.result c.set_line_word.new.self here c.pte_of.ensures.value c.set_line_word.ensures in
     all_changed c.args.b c.args.page c.args.change (record { caches = map lines_of c.args.boards.now; memory = c.args.phys.now }) (record { caches = map lines_of news; memory = c.fetch.new.phys })
     (record { caches = map lines_of (slice_set news c.args.b c.set_line_word.new.self); memory = c.fetch.new.phys }) c.args.history.now c.fetch.new.history c.append.new.self c.word.result c.entry_for.result within c.requires.user
     c.requires.may c.fetch.ensures.fetches word caches refl c.entry_for.ensures c.append.ensures.entry c.append.ensures.room
 
 pub returns-clause-lens : goal.returns-clause-lens
 returns-clause-lens g c =
-    let lines_of = g.T.HasCache.lines_of in
-    let with_lines = g.T.HasCache.with_lines in
-    let lens : IsLens lines_of with_lines = record { kept = g.met.T.HasCache.lines_kept; given = g.met.T.HasCache.lines_set; twice = g.met.T.HasCache.lines_twice } in
+    let lines_of = g.T.HasCache.lens.lines_of in
+    let with_lines = g.T.HasCache.lens.with_lines in
     let news = c.fetch.new.boards in
     let here = subst (λ (n : ℕ). c.args.b < n) (sym c.fetch.auto.boards) c.requires.own in
     let d = c.index-boards-b-2.result in
-    lens_then lines_of with_lines lens c.args.boards.now news (slice_set news c.args.b c.set_line_word.new.self) c.fetch.ensures.lens
-    (lens_one lines_of with_lines lens news c.args.b d c.set_line_word.new.self (with_word (lines_of (get_or news c.args.b d)) c.pte_of.result c.word.result) here c.set_line_word.ensures)
+    only_lines-then g.T.HasCache.lens g.met.T.HasCache.lawful c.args.boards.now news (slice_set news c.args.b c.set_line_word.new.self) c.fetch.ensures.lens
+    (only_lines-set g.T.HasCache.lens g.met.T.HasCache.lawful news c.args.b d c.set_line_word.new.self (with_word (lines_of (get_or news c.args.b d)) c.pte_of.result c.word.result) here c.set_line_word.ensures)

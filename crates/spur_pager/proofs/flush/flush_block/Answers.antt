@@ -4,25 +4,21 @@ use Rattle.spur_addr.specs.Address.{block_start_of}
 use Rattle.spur_flat.specs.declared.entry.Entry.{Entry}
 use Rattle.spur_flat.specs.declared.entry.Entry.TheVariants.{BlockFlush}
 use Rattle.spur_bus.specs.Calls.{MovesTags}
-use Rattle.spur_bus.proofs.BoardFacts.{lines_dropped}
-use Rattle.spur_pager.specs.Lens.{with_caches}
-use Rattle.spur_pager.specs.View.{View, telling, view_of}
+use Rattle.spur_pager.specs.View.{View, seen, view_of}
 use Rattle.spur_pager.proofs.DropFacts.{IsDropped, drops}
-use Rattle.spur_pager.proofs.LensFacts.{IsLens, dropped_lens}
 use Rattle.spur_pager.proofs.flush.flush_block.Goals as goal
 
 pub returns-clause-drops : goal.returns-clause-drops
 returns-clause-drops g c =
-    let lines_of = g.T.HasCache.lines_of in
-    let w : View = view_of (telling g.B.Backing.pages g.B.Backing.slot_count g.B.Backing.faults g.B.Backing.reads) (map lines_of c.args.boards.now) c.args.store.now in
-    let v : View = view_of (telling g.B.Backing.pages g.B.Backing.slot_count g.B.Backing.faults g.B.Backing.reads) (map lines_of c.block_flush-entry.new.boards)
+    let lines_of = g.T.HasCache.lens.lines_of in
+    let w : View = seen g.B.Backing.meaning g.T.HasCache.lens c.args.boards.now c.args.store.now in
+    let v : View = seen g.B.Backing.meaning g.T.HasCache.lens c.block_flush-entry.new.boards
     (record { phys = c.block_flush-entry.new.phys; frames = c.args.store.now.frames; backing = c.args.store.now.backing; history = c.append.new.self; ahead = c.args.store.now.ahead }) in
     let own = subst (λ (n : ℕ). c.args.b < n) (sym (length-map c.args.boards.now lines_of)) c.requires.own in
     let within = subst (λ (n : ℕ). c.args.holder < n) (sym (length-map c.args.boards.now lines_of)) c.requires.holder in
     let e = c.block_flush-entry.ensures.entry in
-    let caches = ap (map lines_of) c.block_flush-entry.ensures.change ∙ lines_dropped lines_of g.T.HasCache.with_lines g.met.T.HasCache.lines_set c.args.holder c.args.at 0 c.args.boards.now in
     let d : IsDropped c.args.holder c.args.at w v (BlockFlush c.args.b c.args.holder (block_start_of c.args.at)) = record {
-      caches = caches;
+      caches = c.block_flush-entry.ensures.change;
       memory = c.block_flush-entry.ensures.memory;
       agree = c.block_flush-entry.ensures.agree;
       serves = c.block_flush-entry.ensures.serves;
@@ -33,12 +29,6 @@ returns-clause-drops g c =
       frames = refl;
       pages = refl;
       slots = refl;
+      ahead = refl;
     } in
     drops c.args.b c.args.holder c.args.at w v own within c.requires.there c.requires.leaving d (c.append.ensures.entry ∙ ap (λ (x : Entry). w.history ++ x ∷ []) e) c.append.ensures.room
-
-pub returns-clause-lens : goal.returns-clause-lens
-returns-clause-lens g c =
-    let lines_of = g.T.HasCache.lines_of in
-    let with_lines = g.T.HasCache.with_lines in
-    let lens : IsLens lines_of with_lines = record { kept = g.met.T.HasCache.lines_kept; given = g.met.T.HasCache.lines_set; twice = g.met.T.HasCache.lines_twice } in
-    subst (λ xs. xs ≡ with_caches with_lines c.args.boards.now (map lines_of xs)) (sym c.block_flush-entry.ensures.change) (dropped_lens lines_of with_lines lens c.args.holder c.args.at c.args.boards.now)

@@ -10,10 +10,10 @@ use Rattle.spur_bus.proofs.BoardFacts.{lines_here}
 use Rattle.spur_bus.proofs.LineFacts.{some_same}
 use Rattle.spur_walk.specs.Tables.{block_address}
 use Rattle.spur_pager.specs.Drops.{DropsBlock, IsLeavingBlock}
-use Rattle.spur_pager.specs.View.{View, telling, view_of}
+use Rattle.spur_pager.specs.View.{View, seen, view_of}
 use Rattle.spur_pager.proofs.EntryFacts.{page_again}
 use Rattle.spur_pager.proofs.FlushingFacts.{MayFlush, flushing_none, flushing_then, line_gone, may_still, next_line, one_more}
-use Rattle.spur_pager.proofs.LensFacts.{IsLens, lens_same, lens_then}
+use Rattle.spur_bus.proofs.LensFacts.{only_lines-same, only_lines-then}
 use Rattle.spur_pager.proofs.flush.flush_cache.Goals as goal
 
 -- the address is that of the line's block
@@ -25,9 +25,8 @@ at_next lines now number line at same there told =
 
 pub loop-number-init : goal.loop-number-init
 loop-number-init g c =
-    let lines_of = g.T.HasCache.lines_of in
-    let w : View = view_of (telling g.B.Backing.pages g.B.Backing.slot_count g.B.Backing.faults g.B.Backing.reads) (map g.T.HasCache.lines_of c.args.boards.now) c.args.store.now in
-    let lens : IsLens g.T.HasCache.lines_of g.T.HasCache.with_lines = record { kept = g.met.T.HasCache.lines_kept; given = g.met.T.HasCache.lines_set; twice = g.met.T.HasCache.lines_twice } in
+    let lines_of = g.T.HasCache.lens.lines_of in
+    let w : View = seen g.B.Backing.meaning g.T.HasCache.lens c.args.boards.now c.args.store.now in
     let lines : List (Option Line) = c.cache.result.now in
     let here = lines_here lines_of c.args.boards.now c.args.holder c.index-boards-holder.result c.requires.holder ∙ sym c.cache.ensures.lines in
     let page = sym (ap page_of c.page_address.ensures ∙ page_again c.args.page) in
@@ -39,68 +38,66 @@ loop-number-init g c =
       left = ap (page_lines_from c.args.page 0) here ∙ ap (λ (p : ℕ). page_lines_from p 0 lines) page ∙ sym c.lines_of_page-numbers.ensures ∙ sym c.into_iter-number-iterator.ensures.into_iter_gives.0;
       frames = refl;
       backing = refl;
-      ahead = refl;
-      lens = lens_same lines_of g.T.HasCache.with_lines lens c.args.boards.now;
+      lens = only_lines-same g.T.HasCache.lens g.met.T.HasCache.lawful c.args.boards.now;
     }
 
 pub block_at-at-requires : goal.block_at-at-requires
 block_at-at-requires g c =
-    let w : View = view_of (telling g.B.Backing.pages g.B.Backing.slot_count g.B.Backing.faults g.B.Backing.reads) (map g.T.HasCache.lines_of c.args.boards.now) c.args.store.now in
-    let u : View = view_of (telling g.B.Backing.pages g.B.Backing.slot_count g.B.Backing.faults g.B.Backing.reads) (map g.T.HasCache.lines_of c.loop-number.boards) c.loop-number.store in
+    let w : View = seen g.B.Backing.meaning g.T.HasCache.lens c.args.boards.now c.args.store.now in
+    let u : View = seen g.B.Backing.meaning g.T.HasCache.lens c.loop-number.boards c.loop-number.store in
     let may : MayFlush c.args.page u = may_still c.args.b c.args.page w u (record { stands = c.requires.stands; leaving = c.requires.leaving; room = c.requires.room }) c.loop-number.invariant.flushing in
-    let within : c.args.holder < length u.caches = subst (λ (n : ℕ). c.args.holder < n) (sym (length-map c.loop-number.boards g.T.HasCache.lines_of)) c.loop-number.invariant.holder in
+    let within : c.args.holder < length u.caches = subst (λ (n : ℕ). c.args.holder < n) (sym (length-map c.loop-number.boards g.T.HasCache.lens.lines_of)) c.loop-number.invariant.holder in
     let next = next_line c.args.page c.args.holder u c.in-Some.number c.next.new.self may within c.loop-number.invariant.before (c.loop-number.invariant.left ∙ c.in-Some.ensures.steps) in
-    let same = lines_here g.T.HasCache.lines_of c.loop-number.boards c.args.holder c.index-boards-holder-in-loop-number.result c.loop-number.invariant.holder ∙ sym c.cache-in-loop-number.ensures.lines in
+    let same = lines_here g.T.HasCache.lens.lines_of c.loop-number.boards c.args.holder c.index-boards-holder-in-loop-number.result c.loop-number.invariant.holder ∙ sym c.cache-in-loop-number.ensures.lines in
     subst (λ (ls : List (Option Line)). IsSome (line_at ls c.in-Some.number)) same (subst IsSome (sym next.there) refl)
 
 pub flush_block-requires-clause-stands : goal.flush_block-requires-clause-stands
 flush_block-requires-clause-stands g c =
-    let w : View = view_of (telling g.B.Backing.pages g.B.Backing.slot_count g.B.Backing.faults g.B.Backing.reads) (map g.T.HasCache.lines_of c.args.boards.now) c.args.store.now in
-    let u : View = view_of (telling g.B.Backing.pages g.B.Backing.slot_count g.B.Backing.faults g.B.Backing.reads) (map g.T.HasCache.lines_of c.loop-number.boards) c.loop-number.store in
+    let w : View = seen g.B.Backing.meaning g.T.HasCache.lens c.args.boards.now c.args.store.now in
+    let u : View = seen g.B.Backing.meaning g.T.HasCache.lens c.loop-number.boards c.loop-number.store in
     let may : MayFlush c.args.page u = may_still c.args.b c.args.page w u (record { stands = c.requires.stands; leaving = c.requires.leaving; room = c.requires.room }) c.loop-number.invariant.flushing in
     may.stands
 
 pub flush_block-requires-clause-there : goal.flush_block-requires-clause-there
 flush_block-requires-clause-there g c =
-    let w : View = view_of (telling g.B.Backing.pages g.B.Backing.slot_count g.B.Backing.faults g.B.Backing.reads) (map g.T.HasCache.lines_of c.args.boards.now) c.args.store.now in
-    let u : View = view_of (telling g.B.Backing.pages g.B.Backing.slot_count g.B.Backing.faults g.B.Backing.reads) (map g.T.HasCache.lines_of c.loop-number.boards) c.loop-number.store in
+    let w : View = seen g.B.Backing.meaning g.T.HasCache.lens c.args.boards.now c.args.store.now in
+    let u : View = seen g.B.Backing.meaning g.T.HasCache.lens c.loop-number.boards c.loop-number.store in
     let may : MayFlush c.args.page u = may_still c.args.b c.args.page w u (record { stands = c.requires.stands; leaving = c.requires.leaving; room = c.requires.room }) c.loop-number.invariant.flushing in
-    let within : c.args.holder < length u.caches = subst (λ (n : ℕ). c.args.holder < n) (sym (length-map c.loop-number.boards g.T.HasCache.lines_of)) c.loop-number.invariant.holder in
+    let within : c.args.holder < length u.caches = subst (λ (n : ℕ). c.args.holder < n) (sym (length-map c.loop-number.boards g.T.HasCache.lens.lines_of)) c.loop-number.invariant.holder in
     let next = next_line c.args.page c.args.holder u c.in-Some.number c.next.new.self may within c.loop-number.invariant.before (c.loop-number.invariant.left ∙ c.in-Some.ensures.steps) in
-    let same = lines_here g.T.HasCache.lines_of c.loop-number.boards c.args.holder c.index-boards-holder-in-loop-number.result c.loop-number.invariant.holder ∙ sym c.cache-in-loop-number.ensures.lines in
+    let same = lines_here g.T.HasCache.lens.lines_of c.loop-number.boards c.args.holder c.index-boards-holder-in-loop-number.result c.loop-number.invariant.holder ∙ sym c.cache-in-loop-number.ensures.lines in
     let at_is = at_next (get_or u.caches c.args.holder []) c.cache-in-loop-number.result.now c.in-Some.number next.first.line c.block_at-at.result same next.there c.block_at-at.ensures in
     subst (λ (at : ℕ). HasLine u.caches c.args.holder at is_alive) (sym at_is) next.has
 
 pub flush_block-requires-clause-leaving : goal.flush_block-requires-clause-leaving
 flush_block-requires-clause-leaving g c =
-    let w : View = view_of (telling g.B.Backing.pages g.B.Backing.slot_count g.B.Backing.faults g.B.Backing.reads) (map g.T.HasCache.lines_of c.args.boards.now) c.args.store.now in
-    let u : View = view_of (telling g.B.Backing.pages g.B.Backing.slot_count g.B.Backing.faults g.B.Backing.reads) (map g.T.HasCache.lines_of c.loop-number.boards) c.loop-number.store in
+    let w : View = seen g.B.Backing.meaning g.T.HasCache.lens c.args.boards.now c.args.store.now in
+    let u : View = seen g.B.Backing.meaning g.T.HasCache.lens c.loop-number.boards c.loop-number.store in
     let may : MayFlush c.args.page u = may_still c.args.b c.args.page w u (record { stands = c.requires.stands; leaving = c.requires.leaving; room = c.requires.room }) c.loop-number.invariant.flushing in
-    let within : c.args.holder < length u.caches = subst (λ (n : ℕ). c.args.holder < n) (sym (length-map c.loop-number.boards g.T.HasCache.lines_of)) c.loop-number.invariant.holder in
+    let within : c.args.holder < length u.caches = subst (λ (n : ℕ). c.args.holder < n) (sym (length-map c.loop-number.boards g.T.HasCache.lens.lines_of)) c.loop-number.invariant.holder in
     let next = next_line c.args.page c.args.holder u c.in-Some.number c.next.new.self may within c.loop-number.invariant.before (c.loop-number.invariant.left ∙ c.in-Some.ensures.steps) in
-    let same = lines_here g.T.HasCache.lines_of c.loop-number.boards c.args.holder c.index-boards-holder-in-loop-number.result c.loop-number.invariant.holder ∙ sym c.cache-in-loop-number.ensures.lines in
+    let same = lines_here g.T.HasCache.lens.lines_of c.loop-number.boards c.args.holder c.index-boards-holder-in-loop-number.result c.loop-number.invariant.holder ∙ sym c.cache-in-loop-number.ensures.lines in
     let at_is = at_next (get_or u.caches c.args.holder []) c.cache-in-loop-number.result.now c.in-Some.number next.first.line c.block_at-at.result same next.there c.block_at-at.ensures in
     subst (λ (at : ℕ). IsLeavingBlock u at) (sym at_is) next.leaving
 
 pub flush_block-requires-clause-room : goal.flush_block-requires-clause-room
 flush_block-requires-clause-room g c =
-    let w : View = view_of (telling g.B.Backing.pages g.B.Backing.slot_count g.B.Backing.faults g.B.Backing.reads) (map g.T.HasCache.lines_of c.args.boards.now) c.args.store.now in
-    let u : View = view_of (telling g.B.Backing.pages g.B.Backing.slot_count g.B.Backing.faults g.B.Backing.reads) (map g.T.HasCache.lines_of c.loop-number.boards) c.loop-number.store in
+    let w : View = seen g.B.Backing.meaning g.T.HasCache.lens c.args.boards.now c.args.store.now in
+    let u : View = seen g.B.Backing.meaning g.T.HasCache.lens c.loop-number.boards c.loop-number.store in
     let may : MayFlush c.args.page u = may_still c.args.b c.args.page w u (record { stands = c.requires.stands; leaving = c.requires.leaving; room = c.requires.room }) c.loop-number.invariant.flushing in
-    let within : c.args.holder < length u.caches = subst (λ (n : ℕ). c.args.holder < n) (sym (length-map c.loop-number.boards g.T.HasCache.lines_of)) c.loop-number.invariant.holder in
+    let within : c.args.holder < length u.caches = subst (λ (n : ℕ). c.args.holder < n) (sym (length-map c.loop-number.boards g.T.HasCache.lens.lines_of)) c.loop-number.invariant.holder in
     let next = next_line c.args.page c.args.holder u c.in-Some.number c.next.new.self may within c.loop-number.invariant.before (c.loop-number.invariant.left ∙ c.in-Some.ensures.steps) in
     next.room
 
 pub loop-number-preserved : goal.loop-number-preserved
 loop-number-preserved g c =
-    let w : View = view_of (telling g.B.Backing.pages g.B.Backing.slot_count g.B.Backing.faults g.B.Backing.reads) (map g.T.HasCache.lines_of c.args.boards.now) c.args.store.now in
-    let u : View = view_of (telling g.B.Backing.pages g.B.Backing.slot_count g.B.Backing.faults g.B.Backing.reads) (map g.T.HasCache.lines_of c.loop-number.boards) c.loop-number.store in
-    let v : View = view_of (telling g.B.Backing.pages g.B.Backing.slot_count g.B.Backing.faults g.B.Backing.reads) (map g.T.HasCache.lines_of c.flush_block.new.boards) c.flush_block.new.store in
-    let lens : IsLens g.T.HasCache.lines_of g.T.HasCache.with_lines = record { kept = g.met.T.HasCache.lines_kept; given = g.met.T.HasCache.lines_set; twice = g.met.T.HasCache.lines_twice } in
+    let w : View = seen g.B.Backing.meaning g.T.HasCache.lens c.args.boards.now c.args.store.now in
+    let u : View = seen g.B.Backing.meaning g.T.HasCache.lens c.loop-number.boards c.loop-number.store in
+    let v : View = seen g.B.Backing.meaning g.T.HasCache.lens c.flush_block.new.boards c.flush_block.new.store in
     let may : MayFlush c.args.page u = may_still c.args.b c.args.page w u (record { stands = c.requires.stands; leaving = c.requires.leaving; room = c.requires.room }) c.loop-number.invariant.flushing in
-    let within : c.args.holder < length u.caches = subst (λ (n : ℕ). c.args.holder < n) (sym (length-map c.loop-number.boards g.T.HasCache.lines_of)) c.loop-number.invariant.holder in
+    let within : c.args.holder < length u.caches = subst (λ (n : ℕ). c.args.holder < n) (sym (length-map c.loop-number.boards g.T.HasCache.lens.lines_of)) c.loop-number.invariant.holder in
     let next = next_line c.args.page c.args.holder u c.in-Some.number c.next.new.self may within c.loop-number.invariant.before (c.loop-number.invariant.left ∙ c.in-Some.ensures.steps) in
-    let same = lines_here g.T.HasCache.lines_of c.loop-number.boards c.args.holder c.index-boards-holder-in-loop-number.result c.loop-number.invariant.holder ∙ sym c.cache-in-loop-number.ensures.lines in
+    let same = lines_here g.T.HasCache.lens.lines_of c.loop-number.boards c.args.holder c.index-boards-holder-in-loop-number.result c.loop-number.invariant.holder ∙ sym c.cache-in-loop-number.ensures.lines in
     let at_is = at_next (get_or u.caches c.args.holder []) c.cache-in-loop-number.result.now c.in-Some.number next.first.line c.block_at-at.result same next.there c.block_at-at.ensures in
     let gone = line_gone c.args.b c.args.page c.args.holder u v c.in-Some.number c.next.new.self within c.loop-number.invariant.before next
     (subst (λ (at : ℕ). DropsBlock c.args.b c.args.holder at u v) at_is c.flush_block.ensures.drops) in
@@ -112,10 +109,9 @@ loop-number-preserved g c =
       left = gone.left;
       frames = c.flush_block.ensures.frames ∙ c.loop-number.invariant.frames;
       backing = c.flush_block.ensures.backing ∙ c.loop-number.invariant.backing;
-      ahead = c.flush_block.ensures.ahead ∙ c.loop-number.invariant.ahead;
-      lens = lens_then g.T.HasCache.lines_of g.T.HasCache.with_lines lens c.args.boards.now c.loop-number.boards c.flush_block.new.boards c.loop-number.invariant.lens c.flush_block.ensures.lens;
+      lens = only_lines-then g.T.HasCache.lens g.met.T.HasCache.lawful c.args.boards.now c.loop-number.boards c.flush_block.new.boards c.loop-number.invariant.lens c.flush_block.ensures.lens;
     }
 
 pub returns-clause-done : goal.returns-clause-done
 returns-clause-done g c =
-    one_more c.args.page c.args.holder (map g.T.HasCache.lines_of c.loop-number.boards) c.loop-number.invariant.before (c.loop-number.invariant.left ∙ c.in-None.ensures.steps.0)
+    one_more c.args.page c.args.holder (map g.T.HasCache.lens.lines_of c.loop-number.boards) c.loop-number.invariant.before (c.loop-number.invariant.left ∙ c.in-None.ensures.steps.0)

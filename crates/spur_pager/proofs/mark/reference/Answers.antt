@@ -5,20 +5,20 @@ use Rattle.spur_pager.specs.Acts.{Writes}
 use Rattle.spur_pager.specs.Changes.{changed, entry_for}
 use Rattle.spur_pager.specs.Marks.{IsMarked, MayMark}
 use Rattle.spur_pager.specs.Runs.{Runs}
-use Rattle.spur_pager.specs.View.{View, telling, view_of}
+use Rattle.spur_pager.specs.View.{View, seen, view_of}
 use Rattle.spur_pager.proofs.FaultFacts.{reference_may, reference_served}
 use Rattle.spur_pager.proofs.mark.reference.Goals as goal
 
 pub mark-requires-clause-may : goal.mark-requires-clause-may
 mark-requires-clause-may g c =
-    let w : View = view_of (telling g.B.Backing.pages g.B.Backing.slot_count g.B.Backing.faults g.B.Backing.reads) (map g.T.HasCache.lines_of c.args.boards.now) c.args.store.now in
-    let within = subst (λ (n : ℕ). c.args.b < n) (sym (length-map c.args.boards.now g.T.HasCache.lines_of)) c.requires.own in
+    let w : View = seen g.B.Backing.meaning g.T.HasCache.lens c.args.boards.now c.args.store.now in
+    let within = subst (λ (n : ℕ). c.args.b < n) (sym (length-map c.args.boards.now g.T.HasCache.lens.lines_of)) c.requires.own in
     subst (λ (n : ℕ). MayMark w c.args.b n Referenced) (sym c.page_start.ensures) (reference_may w c.requires.stands.rest c.args.b c.args.at c.requires.stands.stands within c.requires.user c.requires.fault)
 
 pub returns-clause-serves : goal.returns-clause-serves
 returns-clause-serves g c =
-    let w : View = view_of (telling g.B.Backing.pages g.B.Backing.slot_count g.B.Backing.faults g.B.Backing.reads) (map g.T.HasCache.lines_of c.args.boards.now) c.args.store.now in
-    let v : View = view_of (telling g.B.Backing.pages g.B.Backing.slot_count g.B.Backing.faults g.B.Backing.reads) (map g.T.HasCache.lines_of c.mark.new.boards) c.mark.new.store in
+    let w : View = seen g.B.Backing.meaning g.T.HasCache.lens c.args.boards.now c.args.store.now in
+    let v : View = seen g.B.Backing.meaning g.T.HasCache.lens c.mark.new.boards c.mark.new.store in
     let runs = subst (λ (n : ℕ). Runs c.args.b (Writes n (entry_for Referenced c.args.b n) (changed Referenced) ∷ []) w v) c.page_start.ensures c.mark.ensures.runs in
     let marked = subst (λ (n : ℕ). IsMarked c.args.b n Referenced w v) c.page_start.ensures c.mark.ensures.marked in
     reference_served c.args.b w v c.args.at runs marked c.mark.ensures.used c.mark.ensures.frames

@@ -1,35 +1,35 @@
 use Rattle.std.proofs.Common.{map, subst, sym}
 use Rattle.spur_flat.specs.declared.access.FaultKind.{FaultKind}
 use Rattle.spur_pager.specs.Served.{Leaves, StaysFor}
-use Rattle.spur_pager.specs.View.{View, telling, view_of}
+use Rattle.spur_pager.specs.View.{View, seen, view_of}
 use Rattle.spur_pager.proofs.CourseFacts.{leaves_err, leaves_ok}
 use Rattle.spur_pager.proofs.serving.serve.Goals as goal
 
 pub returns-in-Leaving-clause-ok : goal.returns-in-Leaving-clause-ok
 returns-in-Leaving-clause-ok g c =
-    let w : View = view_of (telling g.B.Backing.pages g.B.Backing.slot_count g.B.Backing.faults g.B.Backing.reads) (map g.T.HasCache.lines_of c.args.boards.now) c.args.store.now in
-    let v : View = view_of (telling g.B.Backing.pages g.B.Backing.slot_count g.B.Backing.faults g.B.Backing.reads) (map g.T.HasCache.lines_of c.leaving.new.boards) c.leaving.new.store in
+    let w : View = seen g.B.Backing.meaning g.T.HasCache.lens c.args.boards.now c.args.store.now in
+    let v : View = seen g.B.Backing.meaning g.T.HasCache.lens c.leaving.new.boards c.leaving.new.store in
     leaves_ok c.args.b w v c.args.kind c.args.at c.leaving.result (subst (λ (k : FaultKind). Leaves c.args.b w k c.args.at c.leaving.result v) (sym c.in-Leaving.is) c.leaving.ensures.serves.leaves)
 
 pub returns-in-Leaving-clause-err : goal.returns-in-Leaving-clause-err
 returns-in-Leaving-clause-err g c =
-    let w : View = view_of (telling g.B.Backing.pages g.B.Backing.slot_count g.B.Backing.faults g.B.Backing.reads) (map g.T.HasCache.lines_of c.args.boards.now) c.args.store.now in
-    let v : View = view_of (telling g.B.Backing.pages g.B.Backing.slot_count g.B.Backing.faults g.B.Backing.reads) (map g.T.HasCache.lines_of c.leaving.new.boards) c.leaving.new.store in
+    let w : View = seen g.B.Backing.meaning g.T.HasCache.lens c.args.boards.now c.args.store.now in
+    let v : View = seen g.B.Backing.meaning g.T.HasCache.lens c.leaving.new.boards c.leaving.new.store in
     leaves_err c.args.b w v c.args.kind c.args.at c.leaving.result (subst (λ (k : FaultKind). Leaves c.args.b w k c.args.at c.leaving.result v) (sym c.in-Leaving.is) c.leaving.ensures.serves.leaves)
 
 pub returns-in-Missing-clause-ok : goal.returns-in-Missing-clause-ok
 returns-in-Missing-clause-ok g c =
-    let w : View = view_of (telling g.B.Backing.pages g.B.Backing.slot_count g.B.Backing.faults g.B.Backing.reads) (map g.T.HasCache.lines_of c.args.boards.now) c.args.store.now in
-    let v : View = view_of (telling g.B.Backing.pages g.B.Backing.slot_count g.B.Backing.faults g.B.Backing.reads) (map g.T.HasCache.lines_of c.missing.new.boards) c.missing.new.store in
+    let w : View = seen g.B.Backing.meaning g.T.HasCache.lens c.args.boards.now c.args.store.now in
+    let v : View = seen g.B.Backing.meaning g.T.HasCache.lens c.missing.new.boards c.missing.new.store in
     leaves_ok c.args.b w v c.args.kind c.args.at c.missing.result (subst (λ (k : FaultKind). Leaves c.args.b w k c.args.at c.missing.result v) (sym c.in-Missing.is) c.missing.ensures.serves.leaves)
 
 pub returns-in-Missing-clause-err : goal.returns-in-Missing-clause-err
 returns-in-Missing-clause-err g c =
-    let w : View = view_of (telling g.B.Backing.pages g.B.Backing.slot_count g.B.Backing.faults g.B.Backing.reads) (map g.T.HasCache.lines_of c.args.boards.now) c.args.store.now in
-    let v : View = view_of (telling g.B.Backing.pages g.B.Backing.slot_count g.B.Backing.faults g.B.Backing.reads) (map g.T.HasCache.lines_of c.missing.new.boards) c.missing.new.store in
+    let w : View = seen g.B.Backing.meaning g.T.HasCache.lens c.args.boards.now c.args.store.now in
+    let v : View = seen g.B.Backing.meaning g.T.HasCache.lens c.missing.new.boards c.missing.new.store in
     leaves_err c.args.b w v c.args.kind c.args.at c.missing.result (subst (λ (k : FaultKind). Leaves c.args.b w k c.args.at c.missing.result v) (sym c.in-Missing.is) c.missing.ensures.serves.leaves)
 
 pub returns-in-Leaving-clause-unused : goal.returns-in-Leaving-clause-unused
 returns-in-Leaving-clause-unused g c =
-    let w : View = view_of (telling g.B.Backing.pages g.B.Backing.slot_count g.B.Backing.faults g.B.Backing.reads) (map g.T.HasCache.lines_of c.args.boards.now) c.args.store.now in
+    let w : View = seen g.B.Backing.meaning g.T.HasCache.lens c.args.boards.now c.args.store.now in
     subst (λ (k : FaultKind). StaysFor w k c.args.store.now.backing c.leaving.new.store.backing) (sym c.in-Leaving.is) c.leaving.ensures.unused

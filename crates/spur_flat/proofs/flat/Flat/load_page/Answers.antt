@@ -1,6 +1,7 @@
 use Rattle.std.proofs.Common.{◌≡◌, ◌∙◌, List, ℕ, ap, subst, sym}
 use Rattle.spur_flat.specs.declared.flat.Flat.{Flat}
-use Rattle.spur_flat.specs.Pager.{page_at, slot_of, with_page}
+use Rattle.spur_flat.specs.Pager.{slot_of}
+use Rattle.spur_addr.specs.Pages.{page_at, with_page}
 use Rattle.spur_flat.specs.Validity.{IsValidFlat}
 use Rattle.spur_flat.proofs.PagerFacts.{valid-loaded}
 use Rattle.spur_flat.proofs.flat.Flat.load_page.Goals as goal

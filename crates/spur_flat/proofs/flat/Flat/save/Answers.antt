@@ -1,6 +1,6 @@
 use Rattle.std.proofs.Common.{◌∙◌, List, ℕ, ap, length}
 use Rattle.spur_flat.specs.declared.flat.Flat.{Flat}
-use Rattle.spur_flat.specs.Pager.{page_at}
+use Rattle.spur_addr.specs.Pages.{page_at}
 use Rattle.spur_flat.proofs.PagerFacts.{frame_within, length-with_page, page_long, slot_within, valid-with_swap}
 use Rattle.spur_flat.proofs.flat.Flat.save.Goals as goal
 
