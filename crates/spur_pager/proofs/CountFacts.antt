@@ -1,8 +1,9 @@
 -- The counts of the swap object's calls.
-use Rattle.std.proofs.Common.{◌≡◌, ◌∙◌, ℕ, ◌≤◌, Bool, true, false, ap, sym, subst, arith}
-use Rattle.spur_swap.specs.Meaning.{Swap}
+use Rattle.std.proofs.Common.{◌≡◌, ◌∙◌, ℕ, ◌≤◌, Bool, true, false, List, Option, ap, sym, subst, arith}
+use Rattle.spur_cache.specs.Lens.{Lens}
+use Rattle.spur_swap.specs.Meaning.{SameButFaults, Swap, after_read, after_write}
 use Rattle.spur_pager.specs.declared.store.Store.{Store}
-use Rattle.spur_pager.specs.View.{View, view_of}
+use Rattle.spur_pager.specs.View.{View, seen}
 use Rattle.spur_pager.specs.Counts.{Counts, count_if}
 
 -- the swap object has made as many calls, and has had as many faults
@@ -12,12 +13,12 @@ pub record SameSwap (w v : View) : Type 0 where
   pub faults : v.faults ≡ w.faults
 
 -- so it is where the object is the same
-pub same_swap : {B : Type 0} (meaning : B → Swap) (w v : View) (old new : B) → w.reads ≡ (meaning old).reads → w.writes ≡ (meaning old).writes → w.faults ≡ (meaning old).faults
-    → v.reads ≡ (meaning new).reads → v.writes ≡ (meaning new).writes → v.faults ≡ (meaning new).faults → new ≡ old → SameSwap w v
-same_swap meaning w v old new wr ww wf vr vw vf same = record {
-  reads = vr ∙ ap (λ b. (meaning b).reads) same ∙ sym wr;
-  writes = vw ∙ ap (λ b. (meaning b).writes) same ∙ sym ww;
-  faults = vf ∙ ap (λ b. (meaning b).faults) same ∙ sym wf;
+pub same_swap : {B : Type 0} → {X : Type 0} → (meaning : B → Swap) (lens : Lens X) (olds news : List X) (old new : Store B) → new.backing ≡ old.backing
+    → SameSwap (seen meaning lens olds old) (seen meaning lens news new)
+same_swap meaning lens olds news old new same = record {
+  reads = ap (λ b. (meaning b).reads) same;
+  writes = ap (λ b. (meaning b).writes) same;
+  faults = ap (λ b. (meaning b).faults) same;
 }
 
 -- calls after none, told by what is known before
@@ -46,3 +47,17 @@ counts_then w u v wrote first second = record {
   where
     later : (a b c : ℕ) → a ≤ b → b ≤ c → a ≤ c
     later a b c first second = omega arith
+
+-- after a call that read a page, and after one that wrote a page
+pub counts_read : {B : Type 0} → {X : Type 0} → (meaning : B → Swap) (lens : Lens X) (olds news : List X) (old new : Store B) → SameButFaults (after_read (meaning old.backing)) (meaning new.backing)
+    → (meaning old.backing).faults ≤ (meaning new.backing).faults → Counts true false (seen meaning lens olds old) (seen meaning lens news new)
+counts_read meaning lens olds news old new stays later = record { reads = ap (λ s. s.reads) stays; writes = ap (λ s. s.writes) stays; later = later }
+
+pub counts_write : {B : Type 0} → {X : Type 0} → (meaning : B → Swap) (lens : Lens X) (olds news : List X) (old new : Store B)
+    → SameButFaults (after_write (meaning old.backing) (meaning new.backing).pages) (meaning new.backing)
+    → (meaning old.backing).faults ≤ (meaning new.backing).faults → Counts false true (seen meaning lens olds old) (seen meaning lens news new)
+counts_write meaning lens olds news old new stays later = record { reads = ap (λ s. s.reads) stays; writes = ap (λ s. s.writes) stays; later = later }
+
+-- what was written, told by what is known
+pub counts_as : (w v : View) (read wrote before : Bool) → wrote ≡ before → Counts read wrote w v → Counts read before w v
+counts_as w v read wrote before is c = subst (λ (x : Bool). Counts read x w v) is c

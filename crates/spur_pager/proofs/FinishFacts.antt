@@ -1,6 +1,6 @@
 -- The leaving page is finished, and a frame is made free.
 use Rattle.std.proofs.Common.{◌≡◌, ◌≢◌, ◌∙◌, ℕ, zero, suc, ◌+◌, ◌-◌, ◌<◌, ◌≤◌, true, false, ap, sym, refl, subst, List, [], ◌∷◌, ◌++◌, get_or, length, replicate, slice_set, Option, Some, None, arith}
-use Rattle.std.specs.Prelude.{IsSome, OnErr, OnOk, Result, Ok, Err}
+use Rattle.std.specs.Prelude.{is_none, ◌&&◌, Bool, IsSome, OnErr, OnOk, Result, Ok, Err}
 use Rattle.std.proofs.lemmas.List.{get_or-set_same}
 use Rattle.std.proofs.lemmas.List as L
 use Rattle.spur_addr.specs.Address.{entry_address_of}
@@ -23,7 +23,10 @@ use Rattle.spur_pager.specs.Acts.{Act, Flushes, page_out}
 use Rattle.spur_pager.specs.Course.{finish_acts, flush_acts, frame_held, free_course, freeing, leaving_course, number_or_zero, slot_held, slot_in, turn_of, until_leaving, victim_by, victim_of}
 use Rattle.spur_pager.specs.Room.{clock_room, entry_room, free_room, lines_of}
 use Rattle.spur_pager.specs.Runs.{Runs}
-use Rattle.spur_pager.specs.Served.{IsStillLeaving, hold_of, tells}
+use Rattle.spur_pager.specs.Counts.{Counts, CountsFinish, CountsOut, count_if}
+use Rattle.spur_pager.specs.Served.{CountsFreeing, IsStillLeaving, has_written, hold_of, tells, writes_to_free}
+use Rattle.spur_pager.proofs.CountFacts.{SameSwap, counts_after}
+use Rattle.spur_flat.specs.declared.access.FaultKind.TheVariants as fault
 use Rattle.spur_pager.specs.Looks.{Clocks}
 use Rattle.spur_pager.specs.Drops.{FlushesPage, IsLeavingPage}
 use Rattle.spur_pager.specs.Moves.{FailsToGoOut, GoesOut, HasSwapFailed, MayGoOut}
@@ -386,6 +389,11 @@ counts_freeing b w u v leaving s full l same c =
     counts_after w u v false (is_dirty (entry_in u page)) (writes_to_free w) same
     (l.dirty page (leaving_small b w u leaving s l) ∙ ap (λ (p : ℕ). is_dirty (entry_in w p)) (same_page b w u leaving l)
     ∙ sym (ap (λ (o : Option ℕ). is_none o && is_dirty (entry_in w (page_in w.frames (victim_of w)))) full)) c
+
+-- the page of the leaving frame is the one that goes out
+pub counts_leaving : (w v : View) (frame : ℕ) → w.frames.leaving ≡ Some frame → CountsFinish frame w v → Counts false (has_written w fault.Leaving) w v
+counts_leaving w v frame is c =
+    subst (λ (n : ℕ). Counts false (is_dirty (entry_in w (page_in w.frames n))) w v) (sym (ap (λ (o : Option ℕ). victim_by o (turn_of w).leaves) is)) c
 
 -- where a frame was free, the swap is not called
 pub counts_none : (w v : View) (frame : ℕ) → least_free w.frames ≡ Some frame → SameSwap w v → CountsFreeing w v

@@ -70,3 +70,9 @@ returns-clause-brought g c =
     let changes = subst (λ (n : ℕ). Changes c.args.b n (In c.args.frame) (loaded_hold c.args.frame l.words (hold_of w)) (past_of w) (hold_of v) (past_of v)) c.page_address.ensures
     (subst (λ (ws : List ℕ). Changes c.args.b c.page_address.result (In c.args.frame) (record { caches = w.caches; memory = ws }) (past_of w) (hold_of v) (past_of v)) l.memory c.change_entry.ensures.changes) in
     comes w c.args.b c.args.frame c.args.page c.args.slot c.requires.may l.words l.long v rest st c.take.ensures.taken c.frames.ensures.table (ap (λ s. s.pages) c.load_page.ensures.stays) (ap (λ s. s.slots) c.load_page.ensures.stays) refl l.told changes
+
+pub returns-in_err-load_page-clause-counts : goal.returns-in_err-load_page-clause-counts
+returns-in_err-load_page-clause-counts g c = ?
+
+pub returns-clause-counts : goal.returns-clause-counts
+returns-clause-counts g c = ?

@@ -56,3 +56,12 @@ returns-clause-unwritten g c =
     let u : View = seen g.B.Backing.meaning g.T.HasCache.lens c.flush_page.new.boards c.flush_page.new.store in
     let of_leaving : IsOfLeaving w c.args.frame c.in-Some.page c.in-Some.slot = record { taken = leaving_taken w.frames c.args.frame c.frames.ensures.table c.requires.leaving; held = sym c.in-Some.ensures.holder; leaving = c.requires.leaving } in
     clean_still w u c.args.b c.args.frame c.in-Some.page c.in-Some.slot c.args.store.now.backing c.flush_page.new.store.backing c.put_out.new.store.backing of_leaving c.flush_page.ensures.flushes c.flush_page.ensures.backing c.put_out.ensures.unwritten
+
+pub returns-clause-counts : goal.returns-clause-counts
+returns-clause-counts g c =
+    let w : View = seen g.B.Backing.meaning g.T.HasCache.lens c.args.boards.now c.args.store.now in
+    let u : View = seen g.B.Backing.meaning g.T.HasCache.lens c.flush_page.new.boards c.flush_page.new.store in
+    let v : View = seen g.B.Backing.meaning g.T.HasCache.lens c.put_out.new.boards c.put_out.new.store in
+    let of_leaving : IsOfLeaving w c.args.frame c.in-Some.page c.in-Some.slot = record { taken = leaving_taken w.frames c.args.frame c.frames.ensures.table c.requires.leaving; held = sym c.in-Some.ensures.holder; leaving = c.requires.leaving } in
+    counts_finish w u v c.args.b c.args.frame c.in-Some.page c.in-Some.slot of_leaving c.flush_page.ensures.flushes
+    (same_swap g.B.Backing.meaning g.T.HasCache.lens c.args.boards.now c.flush_page.new.boards c.args.store.now c.flush_page.new.store c.flush_page.ensures.backing) c.put_out.ensures.counts

@@ -47,3 +47,27 @@ returns-clause-free g c =
 pub returns-clause-lens : goal.returns-clause-lens
 returns-clause-lens g c =
     only_lines-then g.T.HasCache.lens g.met.T.HasCache.lawful c.args.boards.now c.leaving_frame-leaving.new.boards c.finish.new.boards c.leaving_frame-leaving.ensures.lens c.finish.ensures.lens
+
+pub returns-in-Some-clause-counts : goal.returns-in-Some-clause-counts
+returns-in-Some-clause-counts g c =
+    let w : View = seen g.B.Backing.meaning g.T.HasCache.lens c.args.boards.now c.args.store.now in
+    counts_none w w c.in-Some.frame (sym c.free_one.ensures.least ∙ c.in-Some.is)
+    (same_swap g.B.Backing.meaning g.T.HasCache.lens c.args.boards.now c.args.boards.now c.args.store.now c.args.store.now refl)
+
+pub returns-in_err-finish-clause-counts : goal.returns-in_err-finish-clause-counts
+returns-in_err-finish-clause-counts g c =
+    let w : View = seen g.B.Backing.meaning g.T.HasCache.lens c.args.boards.now c.args.store.now in
+    let u : View = seen g.B.Backing.meaning g.T.HasCache.lens c.leaving_frame-leaving.new.boards c.leaving_frame-leaving.new.store in
+    let v : View = seen g.B.Backing.meaning g.T.HasCache.lens c.finish.new.boards c.finish.new.store in
+    let full = sym c.free_one.ensures.least ∙ none_is c.free_one.result (λ n h. c.in_default.not-Some n h) in
+    counts_freeing c.args.b w u v c.leaving_frame-leaving.result c.requires.stands full c.leaving_frame-leaving.ensures.leaving
+    (same_swap g.B.Backing.meaning g.T.HasCache.lens c.args.boards.now c.leaving_frame-leaving.new.boards c.args.store.now c.leaving_frame-leaving.new.store c.leaving_frame-leaving.ensures.backing) c.finish.ensures.counts
+
+pub returns-clause-counts : goal.returns-clause-counts
+returns-clause-counts g c =
+    let w : View = seen g.B.Backing.meaning g.T.HasCache.lens c.args.boards.now c.args.store.now in
+    let u : View = seen g.B.Backing.meaning g.T.HasCache.lens c.leaving_frame-leaving.new.boards c.leaving_frame-leaving.new.store in
+    let v : View = seen g.B.Backing.meaning g.T.HasCache.lens c.finish.new.boards c.finish.new.store in
+    let full = sym c.free_one.ensures.least ∙ none_is c.free_one.result (λ n h. c.in_default.not-Some n h) in
+    counts_freeing c.args.b w u v c.leaving_frame-leaving.result c.requires.stands full c.leaving_frame-leaving.ensures.leaving
+    (same_swap g.B.Backing.meaning g.T.HasCache.lens c.args.boards.now c.leaving_frame-leaving.new.boards c.args.store.now c.leaving_frame-leaving.new.store c.leaving_frame-leaving.ensures.backing) c.finish.ensures.counts

@@ -29,3 +29,15 @@ returns-in-Err-clause-serves g c =
     let v : View = seen g.B.Backing.meaning g.T.HasCache.lens c.finish.new.boards c.finish.new.store in
     let within = subst (λ (n : ℕ). c.args.b < n) (sym (length-map c.args.boards.now g.T.HasCache.lens.lines_of)) c.requires.own in
     leaving_not_served c.args.b w v c.requires.stands.rest c.args.at c.in-Some.frame c.requires.stands.stands within c.requires.user c.requires.fault (sym c.leaving.ensures.leaving ∙ c.in-Some.is) c.in-Err.ensures.failed
+
+pub returns-in-Ok-clause-counts : goal.returns-in-Ok-clause-counts
+returns-in-Ok-clause-counts g c =
+    let w : View = seen g.B.Backing.meaning g.T.HasCache.lens c.args.boards.now c.args.store.now in
+    let v : View = seen g.B.Backing.meaning g.T.HasCache.lens c.finish.new.boards c.finish.new.store in
+    counts_leaving w v c.in-Some.frame (sym c.leaving.ensures.leaving ∙ c.in-Some.is) c.finish.ensures.counts
+
+pub returns-in-Err-clause-counts : goal.returns-in-Err-clause-counts
+returns-in-Err-clause-counts g c =
+    let w : View = seen g.B.Backing.meaning g.T.HasCache.lens c.args.boards.now c.args.store.now in
+    let v : View = seen g.B.Backing.meaning g.T.HasCache.lens c.finish.new.boards c.finish.new.store in
+    counts_leaving w v c.in-Some.frame (sym c.leaving.ensures.leaving ∙ c.in-Some.is) c.finish.ensures.counts

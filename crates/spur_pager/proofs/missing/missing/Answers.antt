@@ -76,8 +76,22 @@ returns-in-Err-clause-serves g c =
     let v : View = seen g.B.Backing.meaning g.T.HasCache.lens c.bring_in.new.boards c.bring_in.new.store in
     let within = subst (λ (n : ℕ). c.args.b < n) (sym (length-map c.args.boards.now g.T.HasCache.lens.lines_of)) c.requires.own in
     let absent = absent_entry w c.requires.stands.rest c.args.b c.args.at c.requires.stands.stands within c.requires.user c.requires.fault in
-    missing_not_read c.args.b w u v c.args.at c.in-Ok.frame c.requires.user absent c.free_frame.ensures.later c.in-Ok.ensures.free c.in-Err.ensures.failed
+    missing_not_read c.args.b w u v c.args.at c.in-Ok.frame c.requires.user absent c.free_frame.ensures.counts.later c.in-Ok.ensures.free c.in-Err.ensures.failed
 
 pub returns-in-Err-clause-lens : goal.returns-in-Err-clause-lens
 returns-in-Err-clause-lens g c =
     only_lines-then g.T.HasCache.lens g.met.T.HasCache.lawful c.args.boards.now c.free_frame.new.boards c.bring_in.new.boards c.free_frame.ensures.lens c.bring_in.ensures.lens
+
+pub returns-in-Ok-bring_in-clause-counts : goal.returns-in-Ok-bring_in-clause-counts
+returns-in-Ok-bring_in-clause-counts g c =
+    let w : View = seen g.B.Backing.meaning g.T.HasCache.lens c.args.boards.now c.args.store.now in
+    let u : View = seen g.B.Backing.meaning g.T.HasCache.lens c.free_frame.new.boards c.free_frame.new.store in
+    let v : View = seen g.B.Backing.meaning g.T.HasCache.lens c.bring_in.new.boards c.bring_in.new.store in
+    counts_then w u v (writes_to_free w) c.free_frame.ensures.counts c.bring_in.ensures.counts
+
+pub returns-in-Err-clause-counts : goal.returns-in-Err-clause-counts
+returns-in-Err-clause-counts g c =
+    let w : View = seen g.B.Backing.meaning g.T.HasCache.lens c.args.boards.now c.args.store.now in
+    let u : View = seen g.B.Backing.meaning g.T.HasCache.lens c.free_frame.new.boards c.free_frame.new.store in
+    let v : View = seen g.B.Backing.meaning g.T.HasCache.lens c.bring_in.new.boards c.bring_in.new.store in
+    counts_then w u v (writes_to_free w) c.free_frame.ensures.counts c.bring_in.ensures.counts

@@ -96,20 +96,6 @@ returns-clause-out g c =
           c.requires.stands.rest c.requires.stands.stands
     ]
 
-pub returns-clause-unread : goal.returns-clause-unread
-returns-clause-unread g c =
-    elim c.if-dirty.branch [
-      | then-dirty+in_ok-save_page x ↦ ap (λ s. (g.B.Backing.meaning s.backing).reads) x.store-is ∙ ap (λ s. s.reads) x.in_ok-save_page.ensures.stays
-      | else-dirty x ↦ ap (λ s. (g.B.Backing.meaning s.backing).reads) x.store-is
-    ]
-
-pub returns-clause-later : goal.returns-clause-later
-returns-clause-later g c =
-    elim c.if-dirty.branch [
-      | then-dirty+in_ok-save_page x ↦ subst (λ s. (g.B.Backing.meaning c.args.store.now.backing).faults ≤ (g.B.Backing.meaning s.backing).faults) (sym x.store-is) x.in_ok-save_page.ensures.later
-      | else-dirty x ↦ subst (λ s. (g.B.Backing.meaning c.args.store.now.backing).faults ≤ (g.B.Backing.meaning s.backing).faults) (sym x.store-is) (omega arith)
-    ]
-
 pub returns-clause-unwritten : goal.returns-clause-unwritten
 returns-clause-unwritten g c clean =
     elim c.if-dirty.branch [
@@ -121,3 +107,9 @@ returns-clause-unwritten g c clean =
     both_ways : (b : Bool) → b ≡ true → b ≡ false → ⊥
     both_ways true h k = cc
     both_ways false h k = cc
+
+pub returns-in_err-save_page-clause-counts : goal.returns-in_err-save_page-clause-counts
+returns-in_err-save_page-clause-counts g c = ?
+
+pub returns-clause-counts : goal.returns-clause-counts
+returns-clause-counts g c = ?
