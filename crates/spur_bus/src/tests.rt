@@ -3,7 +3,8 @@
 ghost use Rattle.std.specs.Prelude.{◌≡◌, ◌+◌, ◌*◌, ◌<◌, ◌≤◌, IfOk, None, get_or, length, map, replicate, true};
 ghost use Rattle.spur_cache.specs.Lines.{standing};
 ghost use Rattle.spur_flat.specs.TagLines.{state_of};
-ghost use Rattle.spur_flat.specs.TagRules.{is_alive, may_claim};
+ghost use Rattle.spur_snoop.specs.Protocol.{is_alive};
+ghost use Rattle.spur_flat.specs.TagRules.{may_claim};
 ghost use Rattle.spur_bus.specs.Agrees.{Agrees, Serves};
 ghost use Rattle.spur_bus.specs.Boards.{line_of_block};
 ghost use Rattle.spur_bus.specs.Calls.{MayRead, line_tag};
