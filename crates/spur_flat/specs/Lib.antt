@@ -7,6 +7,7 @@ pub mod Refusal
 pub mod History
 pub mod Laws
 pub mod Blocks
+pub mod Formed
 pub mod TagLines
 pub mod TagRules
 pub mod Needed
