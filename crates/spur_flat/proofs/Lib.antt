@@ -6,6 +6,8 @@ pub mod TableFacts
 pub mod PagerFacts
 pub mod HistoryFacts
 pub mod FormedFacts
+pub mod PageWordFacts
+pub mod CleanFacts
 pub mod PieceFacts
 pub mod StateFacts
 pub mod QuietFacts
