@@ -110,50 +110,44 @@ mod tests {
     use spur_addr::global;
     use std::test::Fail;
 
-    /// A claim of the block with this number of segment 0.
-    fn claim(block: u32) -> Entry {
+    /// A claim of the block at this address of segment 0.
+    fn claim(at: u32) -> Entry {
         Entry::Claim {
             board: 0,
-            at: global(&[0, 0, 0, 0], block << 5),
+            at: global(&[0, 0, 0, 0], at),
         }
     }
 
     #[test]
     fn entries_are_appended(rt: HostRuntime) -> Result<(), Fail> {
-        let mut history = History::from_vec(vec![in rt.alloc(); claim(1)]?);
+        let mut history = History::from_vec(vec![in rt.alloc(); claim(32)]?);
         history.reserve(2)?;
         // the room is there
         history.reserve(1)?;
-        history.append(claim(2));
-        history.append(claim(3));
-        assert_eq!(rt;
-            history.entries(),
-            [claim(1), claim(2), claim(3)].as_slice()
-        );
-        assert_eq!(rt;
-            history.into_vec().as_slice(),
-            [claim(1), claim(2), claim(3)].as_slice()
-        );
+        history.append(claim(64));
+        history.append(claim(96));
+        let wanted = [claim(32), claim(64), claim(96)];
+        assert_eq!(rt; history.entries(), wanted.as_slice());
+        assert_eq!(rt; history.into_vec().as_slice(), wanted.as_slice());
         Ok(())
     }
 
     #[test]
     fn one_history_moves_into_another(rt: HostRuntime) -> Result<(), Fail> {
         let mut all = History::new(rt.alloc());
-        all.reserve(4)?;
+        all.reserve(3)?;
         let mut own = History::new(rt.alloc());
         own.reserve(2)?;
-        for round in 0..2 {
-            // the second time with the room that was left to it
-            own.append(claim(round));
-            own.append(claim(round + 2));
-            all.append_all(&mut own);
-            assert_eq!(rt; own.entries().len(), 0);
-        }
-        assert_eq!(rt;
-            all.entries(),
-            [claim(0), claim(2), claim(1), claim(3)].as_slice()
-        );
+        own.append(claim(32));
+        own.append(claim(64));
+        all.append_all(&mut own);
+        assert_eq!(rt; own.entries().len(), 0);
+        // its own room is there again
+        own.append(claim(96));
+        assert_eq!(rt; own.entries().len(), 1);
+        all.append_all(&mut own);
+        let wanted = [claim(32), claim(64), claim(96)];
+        assert_eq!(rt; all.entries(), wanted.as_slice());
         Ok(())
     }
 
