@@ -29,7 +29,8 @@ MissIsAllowed = (F : Flat) (access : AccessKind) (g : ℕ) → may (walk_of F g)
 
 -- under an entry of its page it is the first fault of an aligned access, and Align where the access is not aligned
 abbrev pub MissUnderEntry : Type 0
-MissUnderEntry = (entry g : ℕ) (access : AccessKind) → miss_of (Some entry) access g ≡ (if is_aligned g then fault_under entry access else Some Align)
+MissUnderEntry = (entry g : ℕ) (access : AccessKind)
+    → miss_of (Some entry) access g ≡ (if is_aligned g then fault_under entry access else Some Align)
 
 -- so the entry that answers an access by its miss answer is never refused: the fault, the load of the
 -- word that stands in memory, the store of any value, and the test-and-set that read the word

@@ -21,7 +21,8 @@ pub record State : Type 0 where
 
 -- the state at an opening: no line of any board holds anything, and no board has an open entry
 abbrev pub opening_state : ℕ → ℕ → Flat → State
-opening_state boards lines flat = record { flat = flat; tags = no_tags boards lines; opened = replicate boards []; lines = lines }
+opening_state boards lines flat =
+    record { flat = flat; tags = no_tags boards lines; opened = replicate boards []; lines = lines }
 
 -- the state after an entry
 abbrev pub step : State → Entry → State

@@ -65,7 +65,8 @@ UntoldPiecesJoin = (from mid to : State) (first second : List Entry)
 -- the same from one flat state, where the second piece is led on from the flat state to which the first one leads
 abbrev pub UntoldFromOneJoin : Type 0
 UntoldFromOneJoin = (F : Flat) (from mid to : State) (first second : List Entry)
-    → LeadsUntold F from mid first → LeadsUntold (flat_after F first) mid to second → LeadsUntold F from to (first ++ second)
+    → LeadsUntold F from mid first → LeadsUntold (flat_after F first) mid to second
+    → LeadsUntold F from to (first ++ second)
 
 -- a piece of one entry is carried to the state after it exactly where the entry may follow
 abbrev pub OneIsCarried : Type 0

@@ -57,8 +57,8 @@ impl History {
         self.entries.as_slice()
     }
 
-    /// Makes room for `more` entries beside those that there are. `AllocError` comes only for want of memory, and all is as
-    /// it was then; it never comes where the room is there already.
+    /// Makes room for `more` entries beside those that there are. `AllocError` comes only for want of memory, and all is
+    /// as it was then; it never comes where the room is there already.
     pub fn reserve(&mut self, more: usize) -> Result<(), AllocError>
         ensures kept { self.new.entries ≡ self.old.entries }
         ensures room { OnOk result (more ≤ self.new.room) }
@@ -79,8 +79,8 @@ impl History {
         self.entries.push_reserved(entry);
     }
 
-    /// Appends all entries of another history, for which there is room, and empties that one, whose memory stays its own:
-    /// its room grows by as much as this one's shrinks.
+    /// Appends all entries of another history, for which there is room, and empties that one, whose memory stays its
+    /// own: its room grows by as much as this one's shrinks.
     pub fn append_all(&mut self, other: &mut History)
         requires { length other.old.entries ≤ self.old.room }
         ensures entries { self.new.entries ≡ self.old.entries ++ other.old.entries }

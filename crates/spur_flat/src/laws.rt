@@ -14,8 +14,8 @@ pub fn refused_unless_allowed()
     ensures { RefusedUnlessAllowed }
 {}
 
-/// The miss answer of an access is always an allowed answer, and the entry of it is never refused. Where the page has an
-/// entry it is Align, or the first fault of an aligned access under that entry.
+/// The miss answer of an access is always an allowed answer, and the entry of it is never refused. Where the page has
+/// an entry it is Align, or the first fault of an aligned access under that entry.
 pub fn miss_is_allowed()
     ensures allowed { MissIsAllowed }
     ensures never_refused { MissIsNeverRefused }
@@ -40,8 +40,8 @@ pub fn stays_valid()
     ensures history { LegalStaysValid }
 {}
 
-/// An allowed entry keeps the clean pages of a valid flat state clean, and so does a legal history: each valid page that is
-/// not dirty has the words of its swap slot. Where no page is valid, that is so.
+/// An allowed entry keeps the clean pages of a valid flat state clean, and so does a legal history: each valid page that
+/// is not dirty has the words of its swap slot. Where no page is valid, that is so.
 pub fn stays_clean()
     ensures entry { StaysClean }
     ensures history { LegalStaysClean }

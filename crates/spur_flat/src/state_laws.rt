@@ -25,8 +25,8 @@ pub fn state_in_pieces()
     ensures legal_but_values { LegalButValuesInPieces }
 {}
 
-/// Where one piece is carried to the state from which the next is, both together are carried, with the swap told or not;
-/// and where it is not told, from one flat state too.
+/// Where one piece is carried to the state from which the next is, both together are carried, with the swap told or
+/// not; and where it is not told, from one flat state too.
 pub fn pieces_join()
     ensures told { PiecesJoin }
     ensures untold { UntoldPiecesJoin }

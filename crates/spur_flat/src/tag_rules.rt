@@ -153,8 +153,7 @@ fn judge_tables(
 pub fn judge_claim(own: BlockState) -> Result<(), Illegal>
     ensures { result ≡ result_of (claim_refusal own) }
 {
-    let claims = matches!(own, BlockState::UnOwned | BlockState::OwnedNonExclusive);
-    condition(claims, 12, number(own))
+    condition(own.is_valid() && !own.is_exclusive(), 12, number(own))
 }
 
 /// Condition 13: a block that is written back is owned.
