@@ -5,6 +5,14 @@ use Rattle.std.specs.Prelude.{ℕ, Bool, List, ◌+◌, ◌*◌, ◌/◌, ◌%�
 abbrev pub page_of : ℕ → ℕ
 page_of g = g / 2 ^ 12
 
+-- the first byte of a page, by its number
+abbrev pub page_address : ℕ → ℕ
+page_address page = page * 2 ^ 12
+
+-- how many pages there are below segment 255
+abbrev pub user_pages : ℕ
+user_pages = 255 * 2 ^ 18
+
 -- the number of the block of 32 bytes
 abbrev pub block_of : ℕ → ℕ
 block_of g = g / 2 ^ 5

@@ -6,9 +6,9 @@ use Rattle.spur_addr.specs.PageEntry.{is_valid, is_leaving}
 use Rattle.spur_cache.specs.declared.line.Line.{Line}
 use Rattle.spur_cache.specs.Lines.{standing}
 use Rattle.spur_snoop.specs.declared.BlockState.{BlockState}
-use Rattle.spur_snoop.specs.Protocol.{is_owned}
+use Rattle.spur_snoop.specs.Protocol.{is_owned, is_alive}
 use Rattle.spur_flat.specs.declared.tag.Tag.{Tag}
-use Rattle.spur_flat.specs.TagRules.{is_alive, claim_refusal, write_back_refusal, held, state_number, flush_refusal, table_refusal}
+use Rattle.spur_flat.specs.TagRules.{claim_refusal, write_back_refusal, held, state_number, flush_refusal, table_refusal}
 use Rattle.spur_bus.specs.Boards.{line_of_block}
 use Rattle.spur_bus.specs.Calls.{line_tag, cache_tags, tags_of}
 use Rattle.spur_bus.specs.Stand.{ClaimIsTagged, WriteBackIsTagged, ReadIsTagged, FlushIsTagged}

@@ -4,7 +4,7 @@ use Rattle.spur_addr.specs.Address.{block_start_of}
 use Rattle.spur_addr.specs.PageEntry.{is_valid, is_leaving}
 use Rattle.spur_cache.specs.declared.line.Line.{Line}
 use Rattle.spur_snoop.specs.declared.Need.{Need}
-use Rattle.spur_snoop.specs.Protocol.{is_owned}
+use Rattle.spur_snoop.specs.Protocol.{is_owned, is_alive}
 use Rattle.spur_flat.specs.declared.flat.Flat.{Flat}
 use Rattle.spur_flat.specs.declared.entry.Layer.{Layer}
 use Rattle.spur_flat.specs.declared.entry.Entry.{Entry}
@@ -14,7 +14,7 @@ use Rattle.spur_flat.specs.Needed.{lack_of, open_on}
 use Rattle.spur_flat.specs.Pager.{word_of}
 use Rattle.spur_flat.specs.State.{State, step, IsCarried}
 use Rattle.spur_flat.specs.TagLines as tag
-use Rattle.spur_flat.specs.TagRules.{tags_refusal, table_refusal, may_claim, is_alive}
+use Rattle.spur_flat.specs.TagRules.{tags_refusal, table_refusal, may_claim}
 use Rattle.spur_flat.specs.Laws.{address_of}
 use Rattle.spur_flat.specs.Validity.{IsValidFlat}
 use Rattle.spur_flat.specs.Untold.{IsCarriedUntold}

@@ -4,11 +4,11 @@ ghost use Rattle.std.specs.Prelude.{◌≡◌, ◌≢◌, ◌+◌, ◌*◌, ◌<
 ghost use Rattle.spur_addr.specs.Address.{block_start_of};
 ghost use Rattle.spur_snoop.specs.declared.BlockState.TheVariants as state_is;
 ghost use Rattle.spur_snoop.specs.declared.Need.TheVariants as need;
-ghost use Rattle.spur_snoop.specs.Protocol.{is_owned};
+ghost use Rattle.spur_snoop.specs.Protocol.{is_owned, is_alive};
 ghost use Rattle.spur_phys.specs.Blocks.{block_at, block_place};
 ghost use Rattle.spur_cache.specs.Lens.{OnlyLines, caches};
 ghost use Rattle.spur_flat.specs.declared.entry.Entry.TheVariants as entry;
-ghost use Rattle.spur_flat.specs.TagRules.{is_alive, may_claim};
+ghost use Rattle.spur_flat.specs.TagRules.{may_claim};
 ghost use Rattle.spur_bus.specs.Boards.{dropped, line_of_block, restated, supplier, turned, words_or};
 ghost use Rattle.spur_bus.specs.Logical.{logical_block, logical_of};
 ghost use Rattle.spur_bus.specs.Agrees.{Agrees, Serves};

@@ -4,7 +4,8 @@ ghost use Rattle.std.specs.Prelude.{◌≡◌, ◌+◌, ◌*◌, ◌<◌, ◌≤
 ghost use Rattle.spur_cache.specs.Lens.{caches};
 ghost use Rattle.spur_cache.specs.Lines.{standing};
 ghost use Rattle.spur_flat.specs.TagLines.{state_of};
-ghost use Rattle.spur_flat.specs.TagRules.{is_alive, may_claim};
+ghost use Rattle.spur_snoop.specs.Protocol.{is_alive};
+ghost use Rattle.spur_flat.specs.TagRules.{may_claim};
 ghost use Rattle.spur_bus.specs.Agrees.{Agrees, Serves};
 ghost use Rattle.spur_bus.specs.Boards.{line_of_block};
 ghost use Rattle.spur_bus.specs.Calls.{MayRead, line_tag};

@@ -48,7 +48,7 @@ place_past F kind g None ok small walked done = absurd (no_done (is_aligned g) d
 place_past F kind g (Some e) ok small walked done = (data_within F g e ok small walked (done_is_valid e kind g done)).0
 
 -- the first of two tests that both pass
-first_true : (a b : Bool) → (a && b) ≡ true → a ≡ true
+pub first_true : (a b : Bool) → (a && b) ≡ true → a ≡ true
 first_true true b h = refl
 first_true false b h = cc
 
@@ -75,10 +75,10 @@ pub own_entries-append : OwnInPieces
 own_entries-append first second board = filter-append (is_own board) first second
 
 -- a fact of each entry of a list, of its first and of the rest
-first_of_all : (P : Entry → Type 0) (entry : Entry) (rest : List Entry) → All P (entry ∷ rest) → P entry
+pub first_of_all : (P : Entry → Type 0) (entry : Entry) (rest : List Entry) → All P (entry ∷ rest) → P entry
 first_of_all P entry rest each = (recursion_from_All P (entry ∷ rest) each).0
 
-rest_of_all : (P : Entry → Type 0) (entry : Entry) (rest : List Entry) → All P (entry ∷ rest) → All P rest
+pub rest_of_all : (P : Entry → Type 0) (entry : Entry) (rest : List Entry) → All P (entry ∷ rest) → All P rest
 rest_of_all P entry rest each = All-from_recursion P rest (recursion_from_All P (entry ∷ rest) each).1
 
 pub legal-stays-valid : LegalStaysValid

@@ -5,6 +5,9 @@ pub mod WalkFacts
 pub mod TableFacts
 pub mod PagerFacts
 pub mod HistoryFacts
+pub mod FormedFacts
+pub mod PageWordFacts
+pub mod CleanFacts
 pub mod PieceFacts
 pub mod StateFacts
 pub mod QuietFacts

@@ -79,7 +79,7 @@ declared_stands F g ok small declared =
     }
 
 -- the place of a page's entry, by its address and by its page
-place_is : (F : Flat) (g : ℕ) → place_at F.words (page_of g) ≡ entry_place F g
+pub place_is : (F : Flat) (g : ℕ) → place_at F.words (page_of g) ≡ entry_place F g
 place_is F g = ap (λ (r : ℕ). number_of (slice_index F.words r) * 1024 + g / 2 ^ 12 % 1024) (shr-shr g 12 10)
 
 -- it is within the tables, and so within memory
@@ -178,7 +178,7 @@ valid-with_swap F swap ok long = record {
 }
 
 -- one of two flat states
-either : (P : Flat → Type 0) (b : Bool) (F G : Flat) → P F → P G → P (if b then F else G)
+pub either : (P : Flat → Type 0) (b : Bool) (F G : Flat) → P F → P G → P (if b then F else G)
 either P true F G first second = first
 either P false F G first second = second
 
@@ -218,11 +218,11 @@ frame_within F g e n ok small declared had valid is =
     omega arith
 
 -- the words of the page's frame in its slot
-abbrev written : Flat → ℕ → ℕ → Flat
+abbrev pub written : Flat → ℕ → ℕ → Flat
 written F g e = record F { swap = with_page F.swap (slot_of F g) (page_at F.words (number_of e)) }
 
 -- a flat state with the page saved is valid
-valid-written : (F : Flat) (g : ℕ) → IsValidFlat F → g < 2 ^ 38 → is_declared F g ≡ true → is_valid (word_of F g) ≡ true → IsValidFlat (written F g (word_of F g))
+pub valid-written : (F : Flat) (g : ℕ) → IsValidFlat F → g < 2 ^ 38 → is_declared F g ≡ true → is_valid (word_of F g) ≡ true → IsValidFlat (written F g (word_of F g))
 valid-written F g ok small declared valid =
     let n : ℕ = number_of (word_of F g) in
     let here : n * 1024 + 1024 ≤ length F.words = frame_inside F n ok (frame_of F g ok small declared valid) in
@@ -312,7 +312,7 @@ valid-loaded F g frame ok small declared free =
     }
 
 -- a valid entry of a free frame there is none
-none_has : (F : Flat) (frame q e : ℕ) → IsValidFlat F → IsFree F frame → q < 2 ^ 26 → entry_at F.words q ≡ Some e → is_valid e ≡ true → number_of e ≢ frame
+pub none_has : (F : Flat) (frame q e : ℕ) → IsValidFlat F → IsFree F frame → q < 2 ^ 26 → entry_at F.words q ≡ Some e → is_valid e ≡ true → number_of e ≢ frame
 none_has F frame q e ok free small there valid same =
     let declared : IsDeclared F.pages q = ok.tables.declared q e small there (ap (λ (b : Bool). b || is_on_swap e) valid) in
     let page : q * 2 ^ 12 / 2 ^ 12 ≡ q = omega arith in

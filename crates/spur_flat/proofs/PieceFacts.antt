@@ -8,7 +8,7 @@ use Rattle.spur_flat.specs.TagLines.{tags_on}
 use Rattle.spur_flat.specs.Needed.{open_on}
 use Rattle.spur_flat.specs.State.{State, step, state_after, MayFollow, AllFollow, IsCarried, IsTagged, IsNeeded, tags_after, open_after}
 use Rattle.spur_flat.specs.Untold.{IsLegalButValues, IsLike, LeadsUntold}
-use Rattle.spur_flat.specs.StateLaws.{FollowsInPieces, LegalButValuesInPieces, NeededInPieces, OneIsCarried, PiecesJoin, StateInPieces, TaggedInPieces, UntoldPiecesJoin}
+use Rattle.spur_flat.specs.StateLaws.{FollowsInPieces, LegalButValuesInPieces, NeededInPieces, OneIsCarried, PiecesJoin, StateInPieces, TaggedInPieces, UntoldFromOneJoin, UntoldPiecesJoin}
 use Rattle.spur_flat.proofs.HistoryFacts.{flat_after-append}
 
 pub state_after-append : StateInPieces
@@ -74,8 +74,8 @@ carried-append from mid to first second a b = record {
 }
 
 -- from the flat state, the tags and the open entries to which the first piece leads, the second leads on
-untold_append : (F : Flat) (from mid to : State) (first second : List Entry) → LeadsUntold F from mid first → LeadsUntold (flat_after F first) mid to second → LeadsUntold F from to (first ++ second)
-untold_append F from mid to first second a b =
+pub leads-untold-append : UntoldFromOneJoin
+leads-untold-append F from mid to first second a b =
     let G : Flat = flat_after F first in
     record {
       legal = legal_join F first second a.legal b.legal;
@@ -92,7 +92,7 @@ untold_append F from mid to first second a b =
 pub untold-append : UntoldPiecesJoin
 untold-append from mid to first second a b F like =
     let one : LeadsUntold F from mid first = a F like in
-    untold_append F from mid to first second one (b (flat_after F first) one.like)
+    leads-untold-append F from mid to first second one (b (flat_after F first) one.like)
 
 pub carried-one : OneIsCarried
 carried-one S entry = (λ (piece : IsCarried S (step S entry) (entry ∷ [])). piece.follows.0, λ (follows : MayFollow S entry). record { follows = (follows, tt); leads = refl })

@@ -12,7 +12,7 @@ use Rattle.spur_addr.specs.PageEntry.{is_valid, is_dirty, is_leaving, protection
 use Rattle.spur_addr.specs.declared.page_entry.Protection.TheVariants as allow
 use Rattle.spur_snoop.specs.declared.BlockState.{BlockState}
 use Rattle.spur_snoop.specs.declared.Need.{Need}
-use Rattle.spur_snoop.specs.Protocol.{is_owned}
+use Rattle.spur_snoop.specs.Protocol.{is_owned, is_alive}
 use Rattle.spur_flat.specs.declared.flat.Flat.{Flat}
 use Rattle.spur_flat.specs.declared.tag.Tag.{Tag}
 use Rattle.spur_flat.specs.declared.illegal.Illegal.{Illegal}
@@ -33,7 +33,7 @@ use Rattle.spur_flat.specs.History.{on, with_word}
 use Rattle.spur_flat.specs.Laws.{address_of}
 use Rattle.spur_flat.specs.Blocks.{entry_block, root_word_of, layer_of, is_layer}
 use Rattle.spur_flat.specs.TagLines.{fresh_tag, filled_state, kind_of, bus_on, state_of, standing, tag_at, lines_at}
-use Rattle.spur_flat.specs.TagRules.{held, is_alive, state_number, may_fill, table_refusal, refresh_refusal, flush_refusal, entry_state}
+use Rattle.spur_flat.specs.TagRules.{held, state_number, may_fill, table_refusal, refresh_refusal, flush_refusal, entry_state}
 use Rattle.spur_flat.specs.State.{State, IsTagged, step, state_after, AllFollow, tags_after}
 use Rattle.spur_flat.specs.Untold.{IsLike, LeadsUntold}
 use Rattle.spur_flat.specs.UntoldLaws.{IsTaggedAlike, LikeIsTaggedAlike, LikeIsAllowedButValue, StepIsLike, UntoldWhereTold}

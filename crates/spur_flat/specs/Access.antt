@@ -1,5 +1,5 @@
 -- What an access may be answered, and which faults apply to it.
-use Rattle.std.specs.Prelude.{ℕ, ◌&&◌, ◌||◌, Bool, true, false, not, if◌then◌else◌, Option, Some, None, [], ◌∷◌}
+use Rattle.std.specs.Prelude.{ℕ, ◌&&◌, ◌||◌, Bool, true, false, not, if◌then◌else◌, Option, Some, None, List, [], ◌∷◌, filter}
 use Rattle.std.specs.List.{find}
 use Rattle.spur_addr.specs.Address.{is_aligned}
 use Rattle.spur_addr.specs.PageEntry.{is_valid, is_referenced, is_dirty, is_on_swap, is_leaving, protection_of}
@@ -57,24 +57,46 @@ is_align _ = false
 abbrev pub may : Option ℕ → AccessKind → ℕ → Option FaultKind → Bool
 may entry access g answer = if is_aligned g then may_aligned entry access answer else is_align answer
 
--- whether a fault applies to an access, whatever applies besides: the entry of the page, if there is
--- one, the access, the address and the fault
+-- whether a fault applies to an aligned access under the entry of its page, whatever applies besides
+abbrev pub applies_under : ℕ → AccessKind → FaultKind → Bool
+applies_under entry access Align = false
+applies_under entry access Unmapped = not (is_valid entry) && not (is_on_swap entry)
+applies_under entry access Missing = not (is_valid entry)
+applies_under entry access Leaving = is_leaving entry
+applies_under entry access Protection = not (allows entry access)
+applies_under entry access Reference = not (is_referenced entry)
+applies_under entry access Dirty = is_write access && not (is_dirty entry)
+
+-- whether a fault applies to an access: the entry of the page, if there is one, the access, the address and the fault
 abbrev pub applies : Option ℕ → AccessKind → ℕ → FaultKind → Bool
 applies entry access g Align = not (is_aligned g)
 applies None access g Unmapped = true
-applies (Some entry) access g Unmapped = not (is_valid entry) && not (is_on_swap entry)
-applies (Some entry) access g Missing = not (is_valid entry)
-applies (Some entry) access g Leaving = is_leaving entry
-applies (Some entry) access g Protection = not (allows entry access)
-applies (Some entry) access g Reference = not (is_referenced entry)
-applies (Some entry) access g Dirty = is_write access && not (is_dirty entry)
+applies (Some entry) access g fault = applies_under entry access fault
 applies None access g fault = false
+
+-- the order in which the faults are looked for
+abbrev pub fault_order : List FaultKind
+fault_order = Align ∷ Unmapped ∷ Missing ∷ Leaving ∷ Protection ∷ Reference ∷ Dirty ∷ []
 
 -- the miss answer of an access: the first fault that applies, or none, and the access is done
 abbrev pub miss_of : Option ℕ → AccessKind → ℕ → Option FaultKind
-miss_of entry access g =
-    find (applies entry access g) (Align ∷ Unmapped ∷ Missing ∷ Leaving ∷ Protection ∷ Reference ∷ Dirty ∷ [])
+miss_of entry access g = find (applies entry access g) fault_order
+
+-- the miss answer of an aligned access under the entry of its page
+abbrev pub fault_under : ℕ → AccessKind → Option FaultKind
+fault_under entry access = find (applies_under entry access) fault_order
+
+-- whether a fault that applies always bars an access from being done: an access that is done may leave the other two
+-- unnoticed
+abbrev pub bars : FaultKind → Bool
+bars Align = true
+bars Unmapped = true
+bars Missing = true
+bars Leaving = false
+bars Protection = true
+bars Reference = false
+bars Dirty = true
 
 -- the fault that bars an access from being done: the first that applies, of those that always bar it
 abbrev pub bar_of : Option ℕ → AccessKind → ℕ → Option FaultKind
-bar_of entry access g = find (applies entry access g) (Align ∷ Unmapped ∷ Missing ∷ Protection ∷ Dirty ∷ [])
+bar_of entry access g = find (applies entry access g) (filter bars fault_order)

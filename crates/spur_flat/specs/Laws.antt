@@ -1,14 +1,15 @@
 -- Laws that tie refusals to the table of allowed answers and to the pager's conditions, and histories to their pieces.
-use Rattle.std.specs.Prelude.{Option, All, ◌||◌, not, false, ℕ, ◌≡◌, ◌↔◌, ◌<◌, ◌^◌, ◌++◌, true, List, None, Some}
+use Rattle.std.specs.Prelude.{Option, All, ◌||◌, if◌then◌else◌, not, false, ℕ, ◌≡◌, ◌↔◌, ◌<◌, ◌^◌, ◌++◌, true, List, None, Some}
 use Rattle.spur_flat.specs.declared.flat.Flat.{Flat}
 use Rattle.spur_flat.specs.declared.access.AccessKind.{AccessKind}
 use Rattle.spur_flat.specs.declared.access.AccessKind.TheVariants as access
 use Rattle.spur_flat.specs.declared.access.FaultKind.{FaultKind}
+use Rattle.spur_flat.specs.declared.access.FaultKind.TheVariants.{Align}
 use Rattle.spur_flat.specs.declared.entry.Entry.{Entry}
 use Rattle.spur_flat.specs.declared.entry.Entry.TheVariants.{Load, Store, Tas, Fault, Fill, Claim, WriteBack, Refresh, BlockFlush, Leave, PageOut, PageIn, SetRef, SetDirty, ClearRef}
 use Rattle.spur_addr.specs.Address.{is_aligned, page_of}
 use Rattle.spur_addr.specs.PageEntry.{is_valid, is_referenced, is_dirty, is_leaving}
-use Rattle.spur_flat.specs.Access.{allows, is_write, may, miss_of}
+use Rattle.spur_flat.specs.Access.{allows, fault_under, is_write, may, miss_of}
 use Rattle.spur_flat.specs.Table.{walk_of, data_word, entry_at}
 use Rattle.spur_flat.specs.Validity.{IsValidFlat}
 use Rattle.spur_flat.specs.Refusal.{refusal_of}
@@ -25,6 +26,11 @@ RefusedUnlessAllowed = (F : Flat) (entry : Entry) → (refusal_of F entry ≡ No
 -- the miss answer of an access is an allowed answer
 abbrev pub MissIsAllowed : Type 0
 MissIsAllowed = (F : Flat) (access : AccessKind) (g : ℕ) → may (walk_of F g) access g (miss_of (walk_of F g) access g) ≡ true
+
+-- under an entry of its page it is the first fault of an aligned access, and Align where the access is not aligned
+abbrev pub MissUnderEntry : Type 0
+MissUnderEntry = (entry g : ℕ) (access : AccessKind)
+    → miss_of (Some entry) access g ≡ (if is_aligned g then fault_under entry access else Some Align)
 
 -- so the entry that answers an access by its miss answer is never refused: the fault, the load of the
 -- word that stands in memory, the store of any value, and the test-and-set that read the word

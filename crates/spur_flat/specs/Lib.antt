@@ -6,7 +6,10 @@ pub mod Pager
 pub mod Refusal
 pub mod History
 pub mod Laws
+pub mod Clean
+pub mod Past
 pub mod Blocks
+pub mod Formed
 pub mod TagLines
 pub mod TagRules
 pub mod Needed

@@ -105,7 +105,11 @@ gone_out F g entry = with_entry (saved F g entry) g (swapped_of (slot_of F g) (p
 abbrev pub loaded : Flat → ℕ → ℕ → Flat
 loaded F g frame = record F { words = with_page F.words frame (page_at F.swap (slot_of F g)) }
 
+-- the entry of a page that has just come into a frame, where its entry was this one
+abbrev pub brought_entry : ℕ → ℕ → ℕ
+brought_entry frame entry = resident_of frame (protection_of entry)
+
 -- the page of g, whose entry is this one, comes in: the frame has the slot's words, and the entry is that of a page
 -- that has just come into the frame
 abbrev pub come_in : Flat → ℕ → ℕ → ℕ → Flat
-come_in F g entry frame = with_entry (loaded F g frame) g (resident_of frame (protection_of entry))
+come_in F g entry frame = with_entry (loaded F g frame) g (brought_entry frame entry)

@@ -1,5 +1,5 @@
 -- The state that stands after a history, and the pieces of a history that may follow it.
-use Rattle.std.specs.Prelude.{ℕ, ◌≡◌, ⊤, ◌+◌, List, [], ◌∷◌, Option, None}
+use Rattle.std.specs.Prelude.{ℕ, ◌≡◌, ⊤, ◌+◌, List, [], ◌∷◌, Option, None, replicate}
 use Rattle.spur_flat.specs.declared.flat.Flat.{Flat}
 use Rattle.spur_flat.specs.declared.tag.Tag.{Tag}
 use Rattle.spur_flat.specs.declared.illegal.Illegal.{Illegal}
@@ -7,7 +7,7 @@ use Rattle.spur_flat.specs.declared.entry.Entry.{Entry}
 use Rattle.spur_flat.specs.Refused.{or_else}
 use Rattle.spur_flat.specs.Refusal.{refusal_of}
 use Rattle.spur_flat.specs.History.{on, IsAllowed}
-use Rattle.spur_flat.specs.TagLines.{tags_on}
+use Rattle.spur_flat.specs.TagLines.{no_tags, tags_on}
 use Rattle.spur_flat.specs.TagRules.{tags_refusal}
 use Rattle.spur_flat.specs.Blocks.{board_of}
 use Rattle.spur_flat.specs.Needed.{lack_of, open_on, needed_refusal, numbers_at, numbers_on}
@@ -18,6 +18,11 @@ pub record State : Type 0 where
   pub tags : List (List (Option Tag))
   pub opened : List (List Entry)
   pub lines : ℕ
+
+-- the state at an opening: no line of any board holds anything, and no board has an open entry
+abbrev pub opening_state : ℕ → ℕ → Flat → State
+opening_state boards lines flat =
+    record { flat = flat; tags = no_tags boards lines; opened = replicate boards []; lines = lines }
 
 -- the state after an entry
 abbrev pub step : State → Entry → State

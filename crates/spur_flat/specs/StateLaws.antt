@@ -9,7 +9,7 @@ use Rattle.spur_flat.specs.TagRules.{tags_refusal}
 use Rattle.spur_flat.specs.Blocks.{board_of}
 use Rattle.spur_flat.specs.Needed.{open_at}
 use Rattle.spur_flat.specs.State.{State, MayFollow, AllFollow, IsCarried, IsTagged, IsNeeded, step, state_after, tags_after, open_after, judged}
-use Rattle.spur_flat.specs.Untold.{IsCarriedUntold, IsLegalButValues}
+use Rattle.spur_flat.specs.Untold.{IsCarriedUntold, IsLegalButValues, LeadsUntold}
 
 -- all entries of a history may follow exactly where it is legal, tagged and needed
 pub record IsEach (S : State) (history : List Entry) : Type 0 where
@@ -61,6 +61,12 @@ PiecesJoin = (from mid to : State) (first second : List Entry) → IsCarried fro
 abbrev pub UntoldPiecesJoin : Type 0
 UntoldPiecesJoin = (from mid to : State) (first second : List Entry)
     → IsCarriedUntold from mid first → IsCarriedUntold mid to second → IsCarriedUntold from to (first ++ second)
+
+-- the same from one flat state, where the second piece is led on from the flat state to which the first one leads
+abbrev pub UntoldFromOneJoin : Type 0
+UntoldFromOneJoin = (F : Flat) (from mid to : State) (first second : List Entry)
+    → LeadsUntold F from mid first → LeadsUntold (flat_after F first) mid to second
+    → LeadsUntold F from to (first ++ second)
 
 -- a piece of one entry is carried to the state after it exactly where the entry may follow
 abbrev pub OneIsCarried : Type 0

@@ -7,7 +7,7 @@ use Rattle.spur_snoop.specs.declared.BlockState.{BlockState}
 use Rattle.spur_snoop.specs.declared.BlockState.TheVariants.{Invalid, UnOwned, OwnedNonExclusive, OwnedExclusive}
 use Rattle.spur_snoop.specs.declared.Need.{Need}
 use Rattle.spur_snoop.specs.declared.Need.TheVariants as need
-use Rattle.spur_snoop.specs.Protocol.{is_owned}
+use Rattle.spur_snoop.specs.Protocol.{is_alive, is_exclusive, is_owned}
 use Rattle.spur_flat.specs.declared.flat.Flat.{Flat}
 use Rattle.spur_flat.specs.declared.access.AccessKind.TheVariants as access
 use Rattle.spur_flat.specs.declared.access.AccessKind.{AccessKind}
@@ -30,20 +30,6 @@ state_number Invalid = 0
 state_number UnOwned = 1
 state_number OwnedNonExclusive = 2
 state_number OwnedExclusive = 3
-
--- whether a block is there at all
-abbrev pub is_alive : BlockState → Bool
-is_alive Invalid = false
-is_alive UnOwned = true
-is_alive OwnedNonExclusive = true
-is_alive OwnedExclusive = true
-
--- whether a block may be written without the bus
-abbrev pub is_exclusive : BlockState → Bool
-is_exclusive Invalid = false
-is_exclusive UnOwned = false
-is_exclusive OwnedNonExclusive = false
-is_exclusive OwnedExclusive = true
 
 -- a condition on tags, by its number, with the number that is found
 abbrev pub held : Bool → ℕ → ℕ → Option Illegal → Option Illegal

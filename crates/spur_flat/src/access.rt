@@ -1,7 +1,7 @@
 //! Accesses, and the faults that may answer them.
 
 ghost use Rattle.std.specs.Prelude.{◌≡◌, None, Some, IfOk, IfErr, OnOk};
-ghost use Rattle.spur_flat.specs.Access.{allows, bar_of, is_write, may, miss_of};
+ghost use Rattle.spur_flat.specs.Access.{allows, bar_of, fault_under, is_write, may, miss_of};
 ghost use Rattle.spur_flat.specs.Refusal.{fault_number};
 
 use spur_addr::{GlobalAddr, Protection, Pte};
@@ -82,9 +82,17 @@ pub(crate) fn miss(entry: Option<Pte>, access: AccessKind, at: GlobalAddr) -> Op
     if at.number() % 4 != 0 {
         return Some(FaultKind::Align);
     }
-    let Some(entry) = entry else {
-        return Some(FaultKind::Unmapped);
-    };
+    match entry {
+        Some(entry) => first_fault(entry, access),
+        None => Some(FaultKind::Unmapped),
+    }
+}
+
+/// The first fault that applies to an aligned access under the entry of its page, in the order of `FaultKind`; `None`
+/// where none does.
+pub fn first_fault(entry: Pte, access: AccessKind) -> Option<FaultKind>
+    ensures { result ≡ fault_under entry access }
+{
     if !entry.valid() && !entry.on_swap() {
         Some(FaultKind::Unmapped)
     } else if !entry.valid() {

@@ -1,6 +1,7 @@
 //! Laws of the plain machine, each shown by a function that does nothing.
 
-ghost use Rattle.spur_flat.specs.Laws.{AfterInPieces, DoneMayBeRead, LegalInPieces, LegalStaysValid, MissIsAllowed, MissIsNeverRefused, OwnInPieces, ReadyIsDone, RefusedUnlessAllowed, StaysValid, WalkFindsEntry};
+ghost use Rattle.spur_flat.specs.Clean.{LegalStaysClean, NoneValidIsClean, StaysClean};
+ghost use Rattle.spur_flat.specs.Laws.{AfterInPieces, DoneMayBeRead, LegalInPieces, LegalStaysValid, MissIsAllowed, MissIsNeverRefused, MissUnderEntry, OwnInPieces, ReadyIsDone, RefusedUnlessAllowed, StaysValid, WalkFindsEntry};
 
 /// The walk to an address finds the entry of its page, of which validity speaks by the page's number.
 pub fn walk_finds_entry()
@@ -13,10 +14,12 @@ pub fn refused_unless_allowed()
     ensures { RefusedUnlessAllowed }
 {}
 
-/// The miss answer of an access is always an allowed answer, and the entry of it is never refused.
+/// The miss answer of an access is always an allowed answer, and the entry of it is never refused. Where the page has
+/// an entry it is Align, or the first fault of an aligned access under that entry.
 pub fn miss_is_allowed()
     ensures allowed { MissIsAllowed }
     ensures never_refused { MissIsNeverRefused }
+    ensures under_entry { MissUnderEntry }
 {}
 
 /// Where an access may be done, a load may be done too: so `Flat::word` gives the word that a
@@ -35,6 +38,14 @@ pub fn ready_is_done()
 pub fn stays_valid()
     ensures entry { StaysValid }
     ensures history { LegalStaysValid }
+{}
+
+/// An allowed entry keeps the clean pages of a valid flat state clean, and so does a legal history: each valid page that
+/// is not dirty has the words of its swap slot. Where no page is valid, that is so.
+pub fn stays_clean()
+    ensures entry { StaysClean }
+    ensures history { LegalStaysClean }
+    ensures none_valid { NoneValidIsClean }
 {}
 
 /// What a history in two pieces leads to, where it is legal, and which entries in it are a board's own.

@@ -13,6 +13,7 @@
 mod access;
 mod entry;
 mod flat;
+mod history;
 mod illegal;
 mod laws;
 #[cfg(test)]
@@ -31,13 +32,14 @@ mod tags;
 mod tests;
 mod untold_laws;
 
-pub use access::{AccessKind, FaultKind};
+pub use access::{AccessKind, FaultKind, first_fault};
 pub use entry::{Entry, Layer};
 pub use flat::Flat;
+pub use history::History;
 pub use illegal::{Clause, Illegal};
 pub use laws::{
     done_may_be_read, history_in_pieces, miss_is_allowed, ready_is_done, refused_unless_allowed,
-    stays_valid, walk_finds_entry,
+    stays_clean, stays_valid, walk_finds_entry,
 };
 pub use state_laws::{
     idle_entries_are_refused, judged_unless_follows, one_is_carried, pieces_join, quiet_may_follow,

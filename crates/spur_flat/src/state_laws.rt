@@ -1,6 +1,6 @@
 //! Laws of the state that stands after a history, each shown by a function that does nothing.
 
-ghost use Rattle.spur_flat.specs.StateLaws.{FollowsInPieces, FollowWhereEach, JudgedUnlessFollows, LeadToEach, LegalButValuesInPieces, NeededInPieces, OneIsCarried, PiecesJoin, QuietMayFollow, StateInPieces, TaggedInPieces, UntoldPiecesJoin};
+ghost use Rattle.spur_flat.specs.StateLaws.{FollowsInPieces, FollowWhereEach, JudgedUnlessFollows, LeadToEach, LegalButValuesInPieces, NeededInPieces, OneIsCarried, PiecesJoin, QuietMayFollow, StateInPieces, TaggedInPieces, UntoldFromOneJoin, UntoldPiecesJoin};
 ghost use Rattle.spur_flat.specs.Worked.{ManyLinesAreNeeded, OneLineIsNeeded, OtherRootIsRefused, OtherRootIsUseless, OwnedRootIsGreedy, OwnedRootIsRefused, SeventhIsRefused, SeventhIsTooMany, SixthIsNot};
 
 /// All entries of a history may follow exactly where it is legal, tagged and needed, and the state after it has the flat
@@ -25,10 +25,12 @@ pub fn state_in_pieces()
     ensures legal_but_values { LegalButValuesInPieces }
 {}
 
-/// Where one piece is carried to the state from which the next is, both together are carried, with the swap told or not.
+/// Where one piece is carried to the state from which the next is, both together are carried, with the swap told or
+/// not; and where it is not told, from one flat state too.
 pub fn pieces_join()
     ensures told { PiecesJoin }
     ensures untold { UntoldPiecesJoin }
+    ensures untold_from_one { UntoldFromOneJoin }
 {}
 
 /// A piece of one entry is carried to the state after it exactly where the entry may follow.

@@ -6,12 +6,11 @@
 
 ghost use Rattle.std.specs.Prelude.{◌≡◌, IsTrue, None, slice_index};
 ghost use Rattle.spur_addr.specs.PageEntry.{is_readable};
-ghost use Rattle.spur_snoop.specs.Protocol.{is_owned};
 ghost use Rattle.spur_flat.specs.Refused.{result_of};
 ghost use Rattle.spur_flat.specs.Blocks.{is_layer, layer_of, root_word_of};
 ghost use Rattle.spur_flat.specs.Pager.{word_of};
 ghost use Rattle.spur_flat.specs.TagLines.{filled_state, fresh_tag, kind_of, state_of};
-ghost use Rattle.spur_flat.specs.TagRules.{claim_refusal, dirty_copy, fill_refusal, flush_refusal, held, is_alive, is_exclusive, load_refusal, may_fill, pager_refusal, refresh_refusal, state_number, table_refusal, write_back_refusal, write_refusal};
+ghost use Rattle.spur_flat.specs.TagRules.{claim_refusal, dirty_copy, fill_refusal, flush_refusal, held, load_refusal, may_fill, pager_refusal, refresh_refusal, state_number, table_refusal, write_back_refusal, write_refusal};
 ghost use Rattle.spur_flat.specs.Validity.{IsValidFlat};
 
 use crate::access::{AccessKind, allowed};
@@ -53,30 +52,6 @@ pub fn state(tag: Option<Tag>) -> BlockState
     }
 }
 
-/// Whether a block is there.
-fn alive(state: BlockState) -> bool
-    ensures { result ≡ is_alive state }
-{
-    !matches!(state, BlockState::Invalid)
-}
-
-/// Whether a block may be written without the bus.
-fn exclusive(state: BlockState) -> bool
-    ensures { result ≡ is_exclusive state }
-{
-    matches!(state, BlockState::OwnedExclusive)
-}
-
-/// Whether a block is owned, so that it has to go to memory before it is lost.
-fn owned(state: BlockState) -> bool
-    ensures { result ≡ is_owned state }
-{
-    matches!(
-        state,
-        BlockState::OwnedNonExclusive | BlockState::OwnedExclusive
-    )
-}
-
 /// The dirty copy of a line: clear where it holds nothing.
 fn dirty(tag: Option<Tag>) -> bool
     ensures { result ≡ dirty_copy tag }
@@ -106,14 +81,14 @@ fn condition(test: bool, number: u64, found: u64) -> Result<(), Illegal>
 pub fn judge_load(own: Option<Tag>) -> Result<(), Illegal>
     ensures { result ≡ result_of (load_refusal own) }
 {
-    condition(alive(state(own)), 1, number(state(own)))
+    condition(state(own).is_valid(), 1, number(state(own)))
 }
 
 /// Conditions 2 and 3: a store or a test-and-set owns its block alone, and the dirty copy is set.
 pub fn judge_write(own: Option<Tag>) -> Result<(), Illegal>
     ensures { result ≡ result_of (write_refusal own) }
 {
-    condition(exclusive(state(own)), 2, number(state(own)))?;
+    condition(state(own).is_exclusive(), 2, number(state(own)))?;
     condition(dirty(own), 3, 0)
 }
 
@@ -121,7 +96,7 @@ pub fn judge_write(own: Option<Tag>) -> Result<(), Illegal>
 pub fn judge_pager(above: BlockState) -> Result<(), Illegal>
     ensures { result ≡ result_of (pager_refusal above None) }
 {
-    condition(exclusive(above), 4, number(above))
+    condition(above.is_exclusive(), 4, number(above))
 }
 
 /// Conditions 5 to 11: a fill is of its address's layer, of a block that the board lacks, and replaces no owned block;
@@ -142,8 +117,8 @@ pub fn judge_fill(
     ensures { result ≡ result_of (fill_refusal flat.now layer need at own there above) }
 {
     condition(is_of_layer(at, layer), 5, 0)?;
-    condition(!alive(state(own)), 6, number(state(own)))?;
-    condition(!owned(state(there)), 7, number(state(there)))?;
+    condition(!state(own).is_valid(), 6, number(state(own)))?;
+    condition(!state(there).is_owned(), 7, number(state(there)))?;
     judge_tables(flat, layer, need, at, state(above))
 }
 
@@ -162,12 +137,12 @@ fn judge_tables(
     match layer {
         Layer::UserBlock => {
             let entry = page_entry(flat, at);
-            condition(alive(above), 8, number(above))?;
+            condition(above.is_valid(), 8, number(above))?;
             condition(fills(entry, need), 10, entry.word() as u64)
         }
         Layer::PteBlock => {
             let entry = root_entry(flat, at);
-            condition(alive(above), 9, number(above))?;
+            condition(above.is_valid(), 9, number(above))?;
             condition(entry.valid(), 11, entry.word() as u64)
         }
         Layer::RootBlock => Ok(()),
@@ -178,15 +153,14 @@ fn judge_tables(
 pub fn judge_claim(own: BlockState) -> Result<(), Illegal>
     ensures { result ≡ result_of (claim_refusal own) }
 {
-    let claims = matches!(own, BlockState::UnOwned | BlockState::OwnedNonExclusive);
-    condition(claims, 12, number(own))
+    condition(own.is_valid() && !own.is_exclusive(), 12, number(own))
 }
 
 /// Condition 13: a block that is written back is owned.
 pub fn judge_write_back(own: BlockState) -> Result<(), Illegal>
     ensures { result ≡ result_of (write_back_refusal own) }
 {
-    condition(owned(own), 13, number(own))
+    condition(own.is_owned(), 13, number(own))
 }
 
 /// Conditions 14 and 15: a block that is refreshed is there with its dirty copy clear, the block of its page's entry is
@@ -203,8 +177,8 @@ pub fn judge_refresh(
     ensures { result ≡ result_of (refresh_refusal (word_of flat.now at) own above) }
 {
     let entry = page_entry(flat, at);
-    let stale = alive(state(own)) && !dirty(own);
-    condition(stale && alive(above), 14, number(above))?;
+    let stale = state(own).is_valid() && !dirty(own);
+    condition(stale && above.is_valid(), 14, number(above))?;
     condition(entry.dirty() && !entry.leaving(), 15, entry.word() as u64)
 }
 
@@ -214,7 +188,7 @@ pub fn judge_flush(flat: &Flat, at: GlobalAddr, own: BlockState) -> Result<(), I
     ensures { result ≡ result_of (flush_refusal (word_of flat.now at) own) }
 {
     let entry = page_entry(flat, at);
-    condition(alive(own), 16, number(own))?;
+    condition(own.is_valid(), 16, number(own))?;
     condition(entry.valid() && entry.leaving(), 17, entry.word() as u64)
 }
 

@@ -11,7 +11,7 @@ use Rattle.spur_cache.specs.Lines as lines
 use Rattle.spur_snoop.specs.declared.BlockState.{BlockState}
 use Rattle.spur_snoop.specs.declared.BlockState.TheVariants.{Invalid, UnOwned, OwnedNonExclusive, OwnedExclusive}
 use Rattle.spur_flat.specs.declared.entry.Entry.{Entry}
-use Rattle.spur_flat.specs.TagRules.{is_exclusive}
+use Rattle.spur_snoop.specs.Protocol.{is_exclusive}
 use Rattle.spur_bus.specs.Boards.{line_of_block}
 use Rattle.spur_bus.proofs.BoardFacts.{lines_here}
 use Rattle.spur_walk.specs.declared.plan.Plan.TheVariants as plan

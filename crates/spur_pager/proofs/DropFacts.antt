@@ -9,7 +9,8 @@ use Rattle.spur_flat.specs.declared.entry.Entry.TheVariants.{BlockFlush}
 use Rattle.spur_flat.specs.Needed.{open_on}
 use Rattle.spur_flat.specs.Pager.{word_of}
 use Rattle.spur_flat.specs.State.{IsCarried, State}
-use Rattle.spur_flat.specs.TagRules.{is_alive, tags_refusal}
+use Rattle.spur_snoop.specs.Protocol.{is_alive}
+use Rattle.spur_flat.specs.TagRules.{tags_refusal}
 use Rattle.spur_flat.specs.Untold.{IsCarriedUntold}
 use Rattle.spur_flat.specs.Validity.{IsValidFlat}
 use Rattle.spur_bus.specs.Boards.{dropped, dropped_lines, line_in, line_of_block}

@@ -11,7 +11,7 @@ use Rattle.spur_flat.specs.declared.flat.Flat.{Flat}
 use Rattle.spur_flat.specs.Access.{allows, grants, is_write, may_aligned}
 use Rattle.spur_flat.specs.Pager.{is_read_write, may_set_dirty, may_set_referenced, or_zero, word_of}
 use Rattle.spur_flat.specs.Table.{walk_of}
-use Rattle.spur_flat.specs.TagRules.{is_exclusive}
+use Rattle.spur_snoop.specs.Protocol.{is_exclusive}
 use Rattle.spur_bus.specs.Calls.{HasLine}
 use Rattle.spur_walk.specs.Laws.{IsStanding}
 use Rattle.spur_walk.proofs.AnswerFacts.{fault-applies}

@@ -9,7 +9,7 @@ use Rattle.spur_cache.specs.declared.line.Line.{Line}
 use Rattle.spur_flat.specs.declared.flat.Flat.{Flat}
 use Rattle.spur_flat.specs.declared.entry.Entry.{Entry}
 use Rattle.spur_flat.specs.Pager.{word_of}
-use Rattle.spur_flat.specs.TagRules.{is_exclusive}
+use Rattle.spur_snoop.specs.Protocol.{is_exclusive}
 use Rattle.spur_bus.specs.Calls.{HasLine}
 use Rattle.spur_bus.specs.Stand.{state_of}
 use Rattle.spur_frames.specs.Frames.{AreFrames, Frames, IsFrame, IsFree, IsTaken, free_from, holder_of, least_free, looked_at, release_frame}

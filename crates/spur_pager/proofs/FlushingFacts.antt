@@ -13,7 +13,7 @@ use Rattle.spur_flat.specs.declared.flat.Flat.{Flat}
 use Rattle.spur_flat.specs.declared.entry.Entry.{Entry}
 use Rattle.spur_flat.specs.declared.entry.Entry.TheVariants.{BlockFlush}
 use Rattle.spur_flat.specs.Pager.{word_of}
-use Rattle.spur_flat.specs.TagRules.{is_alive}
+use Rattle.spur_snoop.specs.Protocol.{is_alive}
 use Rattle.spur_bus.specs.Boards.{dropped, dropped_lines, line_in, line_of_block}
 use Rattle.spur_bus.specs.Calls.{HasLine, flushed}
 use Rattle.spur_bus.proofs.EachFacts.{set_each}

@@ -14,7 +14,7 @@ use Rattle.spur_flat.specs.declared.flat.Flat.{Flat}
 use Rattle.spur_flat.specs.Access.{may_aligned}
 use Rattle.spur_flat.specs.Pager.{or_zero}
 use Rattle.spur_flat.specs.Table.{walk_of}
-use Rattle.spur_flat.specs.TagRules.{is_exclusive}
+use Rattle.spur_snoop.specs.Protocol.{is_exclusive}
 use Rattle.spur_bus.specs.Boards.{line_of_block}
 use Rattle.spur_bus.specs.Calls.{HasLine}
 use Rattle.spur_frames.specs.Frames.{Frames, IsFree, IsTaken, holder_of, least_free, release_frame, take_frame}

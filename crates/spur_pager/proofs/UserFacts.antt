@@ -9,11 +9,10 @@ use Rattle.spur_snoop.specs.declared.BusKind.{BusKind}
 use Rattle.spur_snoop.specs.declared.BusKind.TheVariants as bus
 use Rattle.spur_snoop.specs.declared.Need.{Need}
 use Rattle.spur_snoop.specs.declared.Need.TheVariants.{Read, Write}
-use Rattle.spur_snoop.specs.Protocol.{is_owned}
+use Rattle.spur_snoop.specs.Protocol.{is_owned, is_exclusive}
 use Rattle.spur_flat.specs.declared.entry.Layer.{Layer}
 use Rattle.spur_flat.specs.declared.entry.Layer.TheVariants.{PteBlock, RootBlock}
 use Rattle.spur_flat.specs.TagLines.{filled_state, kind_of}
-use Rattle.spur_flat.specs.TagRules.{is_exclusive}
 use Rattle.spur_bus.specs.declared.place.Place.{Place}
 use Rattle.spur_bus.specs.Agrees.{Agrees}
 use Rattle.spur_bus.specs.Boards.{line_in, line_of_block}

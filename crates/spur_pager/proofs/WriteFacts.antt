@@ -11,7 +11,7 @@ use Rattle.spur_snoop.specs.declared.BlockState.TheVariants.{OwnedExclusive}
 use Rattle.spur_flat.specs.declared.flat.Flat.{Flat}
 use Rattle.spur_flat.specs.Blocks.{root_word_of}
 use Rattle.spur_flat.specs.Pager.{entry_place}
-use Rattle.spur_flat.specs.TagRules.{is_exclusive}
+use Rattle.spur_snoop.specs.Protocol.{is_exclusive}
 use Rattle.spur_bus.specs.Boards.{line_in, line_of_block}
 use Rattle.spur_bus.specs.Logical.{logical_words}
 use Rattle.spur_bus.specs.Agrees.{IsAt}

@@ -2,7 +2,7 @@
 use Rattle.std.specs.Prelude.{ℕ, ◌≡◌, ◌+◌, ◌<◌, ◌≤◌, ◌++◌, true, Some, None}
 use Rattle.spur_addr.specs.Address.{entry_address_of}
 use Rattle.spur_addr.specs.PageEntry.{is_dirty, protection_of, swapped_of}
-use Rattle.spur_flat.specs.TagRules.{is_exclusive}
+use Rattle.spur_snoop.specs.Protocol.{is_exclusive}
 use Rattle.spur_bus.specs.Calls.{HasLine}
 use Rattle.spur_frames.specs.Frames.{IsFree, IsTaken, least_free, release_frame}
 use Rattle.spur_frames.specs.Clock.{page_in}

@@ -4,7 +4,7 @@ use Rattle.spur_addr.specs.Address.{entry_address_of, table_start}
 use Rattle.spur_addr.specs.PageEntry.{is_valid}
 use Rattle.spur_flat.specs.declared.flat.Flat.{Flat}
 use Rattle.spur_flat.specs.History.{IsAllowed}
-use Rattle.spur_flat.specs.TagRules.{is_exclusive}
+use Rattle.spur_snoop.specs.Protocol.{is_exclusive}
 use Rattle.spur_bus.specs.Calls.{HasLine}
 use Rattle.spur_pager.specs.declared.change.Change.{Change}
 use Rattle.spur_pager.specs.declared.change.Change.TheVariants.{Dirty, In, Out, Referenced, Unreferenced}

@@ -2,7 +2,7 @@
 use Rattle.std.specs.Prelude.{ℕ, ◌≡◌, ◌≢◌, ◌+◌, ◌<◌, ◌≤◌, true, false, [], ◌∷◌, length, Some}
 use Rattle.spur_addr.specs.Address.{entry_address_of}
 use Rattle.spur_addr.specs.PageEntry.{is_dirty, is_on_swap, is_valid, number_of, protection_of, resident_of, swapped_of}
-use Rattle.spur_flat.specs.TagRules.{is_exclusive}
+use Rattle.spur_snoop.specs.Protocol.{is_exclusive}
 use Rattle.spur_bus.specs.Calls.{HasLine}
 use Rattle.spur_frames.specs.Frames.{IsFrame, IsFree, holder_of, release_frame, take_frame}
 use Rattle.spur_pager.specs.View.{View}

@@ -10,7 +10,7 @@ use Rattle.spur_flat.specs.declared.entry.Entry.{Entry}
 use Rattle.spur_flat.specs.declared.flat.Flat.{Flat}
 use Rattle.spur_flat.specs.History.{own_entries}
 use Rattle.spur_flat.specs.Pager.{word_of}
-use Rattle.spur_flat.specs.TagRules.{is_exclusive}
+use Rattle.spur_snoop.specs.Protocol.{is_exclusive}
 use Rattle.spur_bus.specs.Calls.{HasLine, line_count}
 use Rattle.spur_frames.specs.Frames.{least_free}
 use Rattle.spur_frames.specs.Clock.{page_in}

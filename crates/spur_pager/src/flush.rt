@@ -4,7 +4,7 @@ ghost use Rattle.std.specs.Prelude.{◌≡◌, ◌+◌, ◌<◌, ◌≤◌, IsSo
 ghost use Rattle.spur_cache.specs.Lens.{OnlyLines, caches};
 ghost use Rattle.std.specs.Option.{option_map};
 ghost use Rattle.spur_cache.specs.Lines.{line_at};
-ghost use Rattle.spur_flat.specs.TagRules.{is_alive};
+ghost use Rattle.spur_snoop.specs.Protocol.{is_alive};
 ghost use Rattle.spur_bus.specs.Calls.{HasLine};
 ghost use Rattle.spur_walk.specs.Tables.{block_address};
 ghost use Rattle.spur_pager.specs.Drops.{DropsBlock, FlushesPage, IsLeavingBlock, IsLeavingPage};

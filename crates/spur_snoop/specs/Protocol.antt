@@ -59,12 +59,26 @@ supplies OwnedExclusive ReadOwned = true
 supplies OwnedExclusive Claim = false
 supplies OwnedExclusive WriteBack = false
 
+-- whether a block is there at all
+abbrev pub is_alive : BlockState → Bool
+is_alive Invalid = false
+is_alive UnOwned = true
+is_alive OwnedNonExclusive = true
+is_alive OwnedExclusive = true
+
 -- whether a board with a block in this state is its owner
 abbrev pub is_owned : BlockState → Bool
 is_owned Invalid = false
 is_owned UnOwned = false
 is_owned OwnedNonExclusive = true
 is_owned OwnedExclusive = true
+
+-- whether a block may be written without the bus
+abbrev pub is_exclusive : BlockState → Bool
+is_exclusive Invalid = false
+is_exclusive UnOwned = false
+is_exclusive OwnedNonExclusive = false
+is_exclusive OwnedExclusive = true
 
 -- whether a transaction asks for the words of the block
 abbrev pub reads : BusKind → Bool

@@ -6,7 +6,7 @@
 #![tactic(auto)]
 
 ghost use Rattle.std.specs.Prelude.{◌≡◌};
-ghost use Rattle.spur_snoop.specs.Protocol.{OwnersSupplyReads, asked_of, snooped_of, supplies};
+ghost use Rattle.spur_snoop.specs.Protocol.{OwnersSupplyReads, asked_of, is_alive, is_exclusive, is_owned, snooped_of, supplies};
 
 /// The state of a block in one cache: the four states of the Berkeley Ownership protocol.
 #[derive(Clone, Copy, Debug, PartialEq, Eq)]
@@ -21,6 +21,32 @@ pub enum BlockState {
     OwnedNonExclusive,
     /// The cache owns the block, and no other cache has it: it may be written without the bus.
     OwnedExclusive,
+}
+
+impl BlockState {
+    /// Whether the cache has the block at all.
+    pub fn is_valid(self) -> bool
+        ensures { result ≡ is_alive self }
+    {
+        !matches!(self, BlockState::Invalid)
+    }
+
+    /// Whether the cache owns the block, so that the block has to go to memory before the cache loses it.
+    pub fn is_owned(self) -> bool
+        ensures { result ≡ is_owned self }
+    {
+        matches!(
+            self,
+            BlockState::OwnedNonExclusive | BlockState::OwnedExclusive
+        )
+    }
+
+    /// Whether the cache owns the block and no other cache has it, so that it may be written without the bus.
+    pub fn is_exclusive(self) -> bool
+        ensures { result ≡ is_exclusive self }
+    {
+        matches!(self, BlockState::OwnedExclusive)
+    }
 }
 
 /// What a board wants to do with a block.
@@ -82,10 +108,7 @@ pub fn snooped(state: BlockState, kind: BusKind) -> (BlockState, bool)
     ensures state { result.0 ≡ snooped_of state kind }
     ensures supplies { result.1 ≡ supplies state kind }
 {
-    let owned = matches!(
-        state,
-        BlockState::OwnedNonExclusive | BlockState::OwnedExclusive
-    );
+    let owned = state.is_owned();
     match kind {
         BusKind::ReadShared => match state {
             BlockState::OwnedExclusive => (BlockState::OwnedNonExclusive, true),
@@ -105,6 +128,21 @@ pub fn owners_supply_reads()
 #[cfg(test)]
 mod tests {
     use super::*;
+
+    #[test]
+    fn a_state_is_tested_as_the_table_says(rt: HostRuntime) {
+        let rows = [
+            (BlockState::Invalid, false, false, false),
+            (BlockState::UnOwned, true, false, false),
+            (BlockState::OwnedNonExclusive, true, true, false),
+            (BlockState::OwnedExclusive, true, true, true),
+        ];
+        for (state, valid, owned, exclusive) in rows {
+            assert_eq!(rt; state.is_valid(), valid);
+            assert_eq!(rt; state.is_owned(), owned);
+            assert_eq!(rt; state.is_exclusive(), exclusive);
+        }
+    }
 
     #[test]
     fn a_board_asks_as_the_table_says(rt: HostRuntime) {

@@ -11,7 +11,7 @@ use Rattle.spur_cache.specs.Lines.{found, victim_of, word_in}
 use Rattle.spur_cache.proofs.CacheFacts.{found_held}
 use Rattle.spur_snoop.specs.declared.Need.{Need}
 use Rattle.spur_snoop.specs.declared.Need.TheVariants.{Read, Write}
-use Rattle.spur_snoop.specs.Protocol.{is_owned}
+use Rattle.spur_snoop.specs.Protocol.{is_owned, is_exclusive}
 use Rattle.spur_flat.specs.declared.flat.Flat.{Flat}
 use Rattle.spur_flat.specs.declared.access.AccessKind.{AccessKind}
 use Rattle.spur_flat.specs.declared.access.AccessKind.TheVariants as access
@@ -23,7 +23,7 @@ use Rattle.spur_flat.specs.Access.{allows, grants, is_align, is_write, may, may_
 use Rattle.spur_flat.specs.Pager.{or_zero, word_of}
 use Rattle.spur_flat.specs.Table.{data_word, place_in, walk_of}
 use Rattle.spur_flat.specs.TagLines as T
-use Rattle.spur_flat.specs.TagRules.{access_of, held, is_exclusive, is_read, load_refusal, state_number, tags_refusal, write_refusal}
+use Rattle.spur_flat.specs.TagRules.{access_of, held, is_read, load_refusal, state_number, tags_refusal, write_refusal}
 use Rattle.spur_bus.specs.declared.place.Place.{Place}
 use Rattle.spur_bus.specs.Boards.{line_of_block}
 use Rattle.spur_bus.specs.Logical.{logical_words}

@@ -9,7 +9,7 @@ use Rattle.spur_snoop.specs.declared.BlockState.{BlockState}
 use Rattle.spur_snoop.specs.declared.BlockState.TheVariants.{Invalid, UnOwned, OwnedNonExclusive, OwnedExclusive}
 use Rattle.spur_snoop.specs.declared.Need.{Need}
 use Rattle.spur_snoop.specs.declared.Need.TheVariants.{Read, Write}
-use Rattle.spur_snoop.specs.Protocol.{is_owned}
+use Rattle.spur_snoop.specs.Protocol.{is_owned, is_alive}
 use Rattle.spur_flat.specs.declared.flat.Flat.{Flat}
 use Rattle.spur_flat.specs.declared.tag.Tag.{Tag}
 use Rattle.spur_flat.specs.declared.entry.Layer.{Layer}
@@ -19,7 +19,7 @@ use Rattle.spur_flat.specs.Blocks.{entry_block, is_layer, layer_from, layer_of, 
 use Rattle.spur_flat.specs.Pager.{word_of}
 use Rattle.spur_flat.specs.TagLines.{filled_state}
 use Rattle.spur_flat.specs.TagLines as T
-use Rattle.spur_flat.specs.TagRules.{access_of, held, is_alive, is_read, may_fill, state_number, table_refusal}
+use Rattle.spur_flat.specs.TagRules.{access_of, held, is_read, may_fill, state_number, table_refusal}
 use Rattle.spur_bus.specs.declared.place.Place.{Place}
 use Rattle.spur_bus.specs.Calls.{Gives, read_line, tags_of}
 use Rattle.spur_bus.proofs.CallFacts.{tags_in}

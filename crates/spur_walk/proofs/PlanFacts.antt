@@ -12,7 +12,7 @@ use Rattle.spur_snoop.specs.declared.BlockState.{BlockState}
 use Rattle.spur_snoop.specs.declared.BlockState.TheVariants.{Invalid, UnOwned, OwnedNonExclusive, OwnedExclusive}
 use Rattle.spur_snoop.specs.declared.Need.{Need}
 use Rattle.spur_snoop.specs.declared.Need.TheVariants.{Read, Write}
-use Rattle.spur_snoop.specs.Protocol.{is_owned}
+use Rattle.spur_snoop.specs.Protocol.{is_owned, is_exclusive}
 use Rattle.spur_flat.specs.declared.flat.Flat.{Flat}
 use Rattle.spur_flat.specs.declared.access.FaultKind.{FaultKind}
 use Rattle.spur_flat.specs.declared.access.FaultKind.TheVariants as fault
@@ -21,7 +21,7 @@ use Rattle.spur_flat.specs.declared.entry.Layer.TheVariants.{RootBlock, PteBlock
 use Rattle.spur_flat.specs.Access.{allows, grants}
 use Rattle.spur_flat.specs.Blocks.{root_word_of}
 use Rattle.spur_flat.specs.Pager.{word_of}
-use Rattle.spur_flat.specs.TagRules.{access_of, is_exclusive, is_read, may_claim, may_fill}
+use Rattle.spur_flat.specs.TagRules.{access_of, is_read, may_claim, may_fill}
 use Rattle.spur_bus.specs.declared.place.Place.{Place}
 use Rattle.spur_bus.specs.Boards.{line_of_block}
 use Rattle.spur_bus.specs.Agrees.{Agrees}

@@ -17,7 +17,7 @@ use Rattle.spur_snoop.specs.declared.BusKind.{BusKind}
 use Rattle.spur_snoop.specs.declared.BusKind.TheVariants as bus
 use Rattle.spur_snoop.specs.declared.Need.{Need}
 use Rattle.spur_snoop.specs.declared.Need.TheVariants.{Read, Write}
-use Rattle.spur_snoop.specs.Protocol.{is_owned}
+use Rattle.spur_snoop.specs.Protocol.{is_owned, is_exclusive}
 use Rattle.spur_flat.specs.declared.flat.Flat.{Flat}
 use Rattle.spur_flat.specs.declared.access.FaultKind.{FaultKind}
 use Rattle.spur_flat.specs.declared.access.FaultKind.TheVariants as fault
@@ -29,7 +29,7 @@ use Rattle.spur_flat.specs.Access.{grants}
 use Rattle.spur_flat.specs.Blocks.{access_blocks, entry_block, pager_blocks, root_block}
 use Rattle.spur_flat.specs.Needed.{is_block, is_modest}
 use Rattle.spur_flat.specs.Pager.{word_of}
-use Rattle.spur_flat.specs.TagRules.{access_of, is_exclusive}
+use Rattle.spur_flat.specs.TagRules.{access_of}
 use Rattle.spur_bus.specs.declared.place.Place.{Place}
 use Rattle.spur_bus.specs.Boards.{line_of_block, restated_line, told, turned, turned_lines}
 use Rattle.spur_bus.specs.Logical.{logical_block}

@@ -15,7 +15,7 @@ use Rattle.spur_snoop.specs.declared.BlockState.TheVariants.{UnOwned, OwnedExclu
 use Rattle.spur_snoop.specs.declared.BusKind.{BusKind}
 use Rattle.spur_snoop.specs.declared.BusKind.TheVariants as bus
 use Rattle.spur_snoop.specs.declared.Need.{Need}
-use Rattle.spur_snoop.specs.Protocol.{is_owned}
+use Rattle.spur_snoop.specs.Protocol.{is_owned, is_alive}
 use Rattle.spur_flat.specs.declared.flat.Flat.{Flat}
 use Rattle.spur_flat.specs.declared.access.FaultKind.{FaultKind}
 use Rattle.spur_flat.specs.declared.tag.Tag.{Tag}
@@ -25,7 +25,7 @@ use Rattle.spur_flat.specs.declared.entry.Layer.{Layer}
 use Rattle.spur_flat.specs.Pager.{word_of}
 use Rattle.spur_flat.specs.TagLines.{each_from, filled_state, kind_of, tags_on}
 use Rattle.spur_flat.specs.TagLines as T
-use Rattle.spur_flat.specs.TagRules.{dirty_copy, held, is_alive, state_number}
+use Rattle.spur_flat.specs.TagRules.{dirty_copy, held, state_number}
 use Rattle.spur_bus.specs.declared.place.Place.{Place}
 use Rattle.spur_bus.specs.Boards.{line_in, line_of_block, restated_line, turned, turned_lines}
 use Rattle.spur_bus.specs.Logical.{logical_block, logical_words}

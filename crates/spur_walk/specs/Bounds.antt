@@ -4,8 +4,7 @@ use Rattle.spur_addr.specs.Address.{entry_address_of}
 use Rattle.spur_cache.specs.declared.line.Line.{Line}
 use Rattle.spur_cache.specs.Lines.{found, victim_of}
 use Rattle.spur_snoop.specs.declared.Need.{Need}
-use Rattle.spur_snoop.specs.Protocol.{is_owned}
-use Rattle.spur_flat.specs.TagRules.{is_exclusive}
+use Rattle.spur_snoop.specs.Protocol.{is_owned, is_exclusive}
 use Rattle.spur_walk.specs.declared.looked.Looked.{Looked}
 use Rattle.spur_walk.specs.declared.looked.Looked.TheVariants.{Hit, Denied, NeedsDirty, NeedsClaim, Miss}
 use Rattle.spur_walk.specs.Look.{look_of}

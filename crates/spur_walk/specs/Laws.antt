@@ -23,7 +23,8 @@ use Rattle.spur_flat.specs.Laws.{address_of}
 use Rattle.spur_flat.specs.State.{IsCarried}
 use Rattle.spur_flat.specs.Pager.{word_of}
 use Rattle.spur_flat.specs.Table.{data_word}
-use Rattle.spur_flat.specs.TagRules.{is_exclusive, tags_refusal}
+use Rattle.spur_snoop.specs.Protocol.{is_exclusive}
+use Rattle.spur_flat.specs.TagRules.{tags_refusal}
 use Rattle.spur_flat.specs.Untold.{IsAllowedButValue, IsCarriedUntold, IsLike}
 use Rattle.spur_flat.specs.Validity.{IsValidFlat}
 use Rattle.spur_bus.specs.Boards.{line_of_block}

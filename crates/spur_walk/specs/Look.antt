@@ -4,7 +4,8 @@ use Rattle.spur_cache.specs.declared.line.Line.{Line}
 use Rattle.spur_snoop.specs.declared.Need.{Need}
 use Rattle.spur_snoop.specs.declared.Need.TheVariants.{Read, Write}
 use Rattle.spur_flat.specs.Access.{grants}
-use Rattle.spur_flat.specs.TagRules.{access_of, is_exclusive}
+use Rattle.spur_snoop.specs.Protocol.{is_exclusive}
+use Rattle.spur_flat.specs.TagRules.{access_of}
 use Rattle.spur_walk.specs.declared.looked.Looked.{Looked}
 use Rattle.spur_walk.specs.declared.looked.Looked.TheVariants.{Hit, Denied, NeedsDirty, NeedsClaim, Miss}
 

@@ -1,5 +1,5 @@
 use Rattle.std.proofs.Common.{◌∙◌, ap, map, refl, sym}
-use Rattle.spur_flat.specs.TagRules.{is_alive}
+use Rattle.spur_snoop.specs.Protocol.{is_alive}
 use Rattle.spur_bus.proofs.TestFacts.{has-line}
 use Rattle.spur_bus.proofs.tests.try_flush.Goals as goal
 

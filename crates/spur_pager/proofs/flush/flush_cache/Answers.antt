@@ -4,7 +4,7 @@ use Rattle.std.specs.Option.{option_map}
 use Rattle.spur_addr.specs.Address.{page_of}
 use Rattle.spur_cache.specs.declared.line.Line.{Line}
 use Rattle.spur_cache.specs.Lines.{line_at, page_lines_from}
-use Rattle.spur_flat.specs.TagRules.{is_alive}
+use Rattle.spur_snoop.specs.Protocol.{is_alive}
 use Rattle.spur_bus.specs.Calls.{HasLine}
 use Rattle.spur_bus.proofs.BoardFacts.{lines_here}
 use Rattle.spur_bus.proofs.LineFacts.{some_same}
