@@ -10,10 +10,10 @@ use Rattle.spur_flat.specs.State.{tags_after}
 
 -- a block has one owner at most, and one that is exclusive at a board is valid at no other
 pub record HasOneOwner (T : List (List (Option Tag))) (block : ℕ) : Type 0 where
-  pub one_owner : (i j : ℕ) → is_owned (state_of (tag_at T i block)) ≡ true → is_owned (state_of (tag_at T j block)) ≡ true
-      → i ≡ j
-  pub exclusive : (i j : ℕ) → is_exclusive (state_of (tag_at T i block)) ≡ true → is_alive (state_of (tag_at T j block)) ≡ true
-      → i ≡ j
+  pub one_owner : (i j : ℕ)
+      → is_owned (state_of (tag_at T i block)) ≡ true → is_owned (state_of (tag_at T j block)) ≡ true → i ≡ j
+  pub exclusive : (i j : ℕ)
+      → is_exclusive (state_of (tag_at T i block)) ≡ true → is_alive (state_of (tag_at T j block)) ≡ true → i ≡ j
 
 -- so is each block after any history from no tags: what an entry leaves keeps it, whatever the entry asks for
 abbrev pub EachHasOneOwner : Type 0

@@ -42,8 +42,8 @@ pub use laws::{
 };
 pub use ownership_laws::blocks_have_one_owner;
 pub use state_laws::{
-    idle_entries_are_refused, judged_unless_follows, one_is_carried, pieces_join, quiet_may_follow,
-    state_in_pieces, state_is_each, worked_histories_are_needed,
+    idle_entries_are_refused, one_is_carried, pieces_join, quiet_may_follow,
+    refused_unless_follows, state_in_pieces, state_is_each, worked_histories_are_needed,
 };
 pub use tags::Tags;
 pub use untold_laws::untold_where_told;
