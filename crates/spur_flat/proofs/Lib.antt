@@ -12,6 +12,8 @@ pub mod PieceFacts
 pub mod StateFacts
 pub mod QuietFacts
 pub mod WorkedFacts
+pub mod TagPlaces
+pub mod OwnerFacts
 pub mod LikeFacts
 pub mod UntoldFacts
 pub mod OnePage

@@ -7,8 +7,8 @@ use Rattle.spur_flat.specs.Refusal.{refusal_of}
 use Rattle.spur_flat.specs.TagRules.{tags_refusal}
 use Rattle.spur_flat.specs.Blocks.{board_of}
 use Rattle.spur_flat.specs.Needed.{Lack, TooMany, Useless, Greedy, lack_of, needed_refusal, numbers_at, numbers_on}
-use Rattle.spur_flat.specs.State.{State, MayFollow, step, AllFollow, state_refusal, judged}
-use Rattle.spur_flat.specs.StateLaws.{FollowWhereEach, IsEach, JudgedUnlessFollows, LeadToEach}
+use Rattle.spur_flat.specs.State.{State, MayFollow, step, AllFollow, state_refusal, history_refusal}
+use Rattle.spur_flat.specs.StateLaws.{FollowWhereEach, IsEach, RefusedUnlessFollows, LeadToEach}
 use Rattle.spur_flat.proofs.AccessFacts.{refused-unless-allowed}
 
 to_each : (S : State) (history : List Entry) → AllFollow S history → IsEach S history
@@ -56,19 +56,19 @@ unrefused-follows numbers S entry =
       λ h. p.1 (a.1 h.legal, t.1 (h.tagged, n.1 h.needed)),
     )
 
-judged_follows : (count : ℕ) (numbers : List (List ℕ)) (S : State) (history : List Entry) → judged count numbers S history ≡ None → AllFollow S history
-judged_follows count numbers S [] h = tt
-judged_follows count numbers S (entry ∷ rest) h =
+unrefused_follow : (count : ℕ) (numbers : List (List ℕ)) (S : State) (history : List Entry) → history_refusal count numbers S history ≡ None → AllFollow S history
+unrefused_follow count numbers S [] h = tt
+unrefused_follow count numbers S (entry ∷ rest) h =
     let later : List (List ℕ) = numbers_on numbers (count + 1) entry in
-    let both = (or_else_none (state_refusal numbers S entry) (judged (count + 1) later (step S entry) rest)).0 h in
-    ((unrefused-follows numbers S entry).0 both.0, judged_follows (count + 1) later (step S entry) rest both.1)
+    let both = (or_else_none (state_refusal numbers S entry) (history_refusal (count + 1) later (step S entry) rest)).0 h in
+    ((unrefused-follows numbers S entry).0 both.0, unrefused_follow (count + 1) later (step S entry) rest both.1)
 
-follows_judged : (count : ℕ) (numbers : List (List ℕ)) (S : State) (history : List Entry) → AllFollow S history → judged count numbers S history ≡ None
-follows_judged count numbers S [] all = refl
-follows_judged count numbers S (entry ∷ rest) all =
+follow_unrefused : (count : ℕ) (numbers : List (List ℕ)) (S : State) (history : List Entry) → AllFollow S history → history_refusal count numbers S history ≡ None
+follow_unrefused count numbers S [] all = refl
+follow_unrefused count numbers S (entry ∷ rest) all =
     let later : List (List ℕ) = numbers_on numbers (count + 1) entry in
-    (or_else_none (state_refusal numbers S entry) (judged (count + 1) later (step S entry) rest)).1
-    ((unrefused-follows numbers S entry).1 all.0, follows_judged (count + 1) later (step S entry) rest all.1)
+    (or_else_none (state_refusal numbers S entry) (history_refusal (count + 1) later (step S entry) rest)).1
+    ((unrefused-follows numbers S entry).1 all.0, follow_unrefused (count + 1) later (step S entry) rest all.1)
 
-pub judged-unless-follows : JudgedUnlessFollows
-judged-unless-follows count numbers S history = (judged_follows count numbers S history, follows_judged count numbers S history)
+pub refused-unless-follows : RefusedUnlessFollows
+refused-unless-follows count numbers S history = (unrefused_follow count numbers S history, follow_unrefused count numbers S history)

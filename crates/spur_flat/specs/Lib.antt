@@ -17,4 +17,5 @@ pub mod State
 pub mod Untold
 pub mod UntoldLaws
 pub mod StateLaws
+pub mod Ownership
 pub mod Worked

@@ -77,7 +77,7 @@ state_refusal numbers S entry =
     (needed_refusal (numbers_at numbers (board_of entry)) (lack_of S.lines S.opened entry)))
 
 -- the first refusal of a history whose first entry has the number after `count`
-abbrev pub judged : ℕ → List (List ℕ) → State → List Entry → Option Illegal
-judged count numbers S [] = None
-judged count numbers S (entry ∷ rest) =
-    or_else (state_refusal numbers S entry) (judged (count + 1) (numbers_on numbers (count + 1) entry) (step S entry) rest)
+abbrev pub history_refusal : ℕ → List (List ℕ) → State → List Entry → Option Illegal
+history_refusal count numbers S [] = None
+history_refusal count numbers S (entry ∷ rest) =
+    or_else (state_refusal numbers S entry) (history_refusal (count + 1) (numbers_on numbers (count + 1) entry) (step S entry) rest)

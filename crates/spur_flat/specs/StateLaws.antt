@@ -8,7 +8,7 @@ use Rattle.spur_flat.specs.History.{flat_after, IsLegal}
 use Rattle.spur_flat.specs.TagRules.{tags_refusal}
 use Rattle.spur_flat.specs.Blocks.{board_of}
 use Rattle.spur_flat.specs.Needed.{open_at}
-use Rattle.spur_flat.specs.State.{State, MayFollow, AllFollow, IsCarried, IsTagged, IsNeeded, step, state_after, tags_after, open_after, judged}
+use Rattle.spur_flat.specs.State.{State, MayFollow, AllFollow, IsCarried, IsTagged, IsNeeded, step, state_after, tags_after, open_after, history_refusal}
 use Rattle.spur_flat.specs.Untold.{IsCarriedUntold, IsLegalButValues, LeadsUntold}
 
 -- all entries of a history may follow exactly where it is legal, tagged and needed
@@ -31,8 +31,8 @@ abbrev pub LeadToEach : Type 0
 LeadToEach = (S : State) (history : List Entry) → LeadsEach S history
 
 -- nothing of a history is refused exactly where all of it may follow, whatever the numbers of its entries
-abbrev pub JudgedUnlessFollows : Type 0
-JudgedUnlessFollows = (count : ℕ) (numbers : List (List ℕ)) (S : State) (history : List Entry) → (judged count numbers S history ≡ None) ↔ AllFollow S history
+abbrev pub RefusedUnlessFollows : Type 0
+RefusedUnlessFollows = (count : ℕ) (numbers : List (List ℕ)) (S : State) (history : List Entry) → (history_refusal count numbers S history ≡ None) ↔ AllFollow S history
 
 -- a history in two pieces: all of it may follow where the first piece may, and the second from where the first leads
 abbrev pub FollowsInPieces : Type 0

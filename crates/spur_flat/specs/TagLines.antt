@@ -1,5 +1,5 @@
 -- What each board's lines are known to hold, and what an entry changes there.
-use Rattle.std.specs.Prelude.{ℕ, ◌+◌, ◌%◌, ◌==◌, true, if◌then◌else◌, List, [], ◌∷◌, length, get_or, replicate, slice_get, slice_index, slice_set, Option, Some, None}
+use Rattle.std.specs.Prelude.{◌≡◌, ⊤, ℕ, ◌+◌, ◌%◌, ◌==◌, true, if◌then◌else◌, List, [], ◌∷◌, length, get_or, replicate, slice_get, slice_index, slice_set, Option, Some, None}
 use Rattle.spur_addr.specs.Address.{block_of}
 use Rattle.spur_addr.specs.PageEntry.{is_dirty, protection_of, number_of}
 use Rattle.spur_addr.specs.declared.page_entry.Protection.TheVariants as allow
@@ -40,6 +40,11 @@ of_block block (Some tag) = if tag.block == block then Some tag else None
 -- the tag of a block
 abbrev pub tag_in : List (Option Tag) → ℕ → Option Tag
 tag_in lines block = of_block block (standing lines block)
+
+-- a tag is that of a block, where there is one
+abbrev pub IsOfBlock : ℕ → Option Tag → Type 0
+IsOfBlock block None = ⊤
+IsOfBlock block (Some tag) = tag.block ≡ block
 
 -- the state of a block whose tag this is: Invalid where there is none
 abbrev pub state_of : Option Tag → BlockState

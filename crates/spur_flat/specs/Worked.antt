@@ -11,10 +11,10 @@ use Rattle.spur_flat.specs.declared.entry.Layer.TheVariants.{RootBlock, PteBlock
 use Rattle.spur_flat.specs.declared.entry.Entry.{Entry}
 use Rattle.spur_flat.specs.declared.entry.Entry.TheVariants.{Load, Store, Fault, Fill, Claim, WriteBack, Refresh, PageIn, SetDirty}
 use Rattle.spur_flat.specs.Refused.{refused}
-use Rattle.spur_flat.specs.Refusal.{refusal_of}
+use Rattle.spur_flat.specs.History.{IsLegal}
 use Rattle.spur_flat.specs.TagRules.{tags_refusal}
 use Rattle.spur_flat.specs.Needed.{TooMany, Useless, Greedy, lack_of, open_on}
-use Rattle.spur_flat.specs.State.{State, IsNeeded, open_after, state_refusal, judged}
+use Rattle.spur_flat.specs.State.{State, IsNeeded, IsTagged, open_after, state_refusal, history_refusal}
 
 -- one board, with nothing open, whose open entries have no numbers
 abbrev pub none_open : List (List Entry)
@@ -86,6 +86,23 @@ owned_root = Fill 0 RootBlock Write 0x3fcff00000
 abbrev pub OwnedRootIsGreedy : Type 0
 OwnedRootIsGreedy = lack_of 4096 (open_on none_open owned_root) missing ≡ Some (Greedy 0)
 
+-- a block on a line of none of the three is written back for nothing: that of the word at 1020 is on line 129
+abbrev pub other_line : Entry
+other_line = WriteBack 0 0x1020
+
+abbrev pub OtherLineIsUseless : Type 0
+OtherLineIsUseless = lack_of 4096 (open_on none_open other_line) missing ≡ Some (Useless 0)
+
+-- and before a load of the word at 40 the block of its page's entry is of use, but is not to be owned
+abbrev pub load : Entry
+load = Load 0 0x40 41
+
+abbrev pub claimed_entry : Entry
+claimed_entry = Claim 0 0x3fc0000000
+
+abbrev pub ClaimedEntryIsGreedy : Type 0
+ClaimedEntryIsGreedy = lack_of 4096 (open_on none_open claimed_entry) load ≡ Some (Greedy 0)
+
 -- a fill of the block of the word at 40, and six of them
 abbrev pub one_fill : Entry
 one_fill = Fill 0 UserBlock Read 0x40
@@ -104,17 +121,24 @@ SixthIsNot = IsNeeded 4096 none_open six_fills
 abbrev pub with_open : Flat → List (List (Option Tag)) → List (List Entry) → State
 with_open F T opened = record { flat = F; tags = T; opened = opened; lines = 4096 }
 
--- a history of a fill and that fault, which the flat state and the tags allow, is refused by the condition with this number:
--- FOUND is 1, the number of the fill
-abbrev pub IsRefusedBy : ℕ → Entry → Type 0
-IsRefusedBy condition fill = (F : Flat) (T : List (List (Option Tag))) → tags_refusal F T fill ≡ None → refusal_of F missing ≡ None
-    → judged 0 no_numbers (with_open F T none_open) (fill ∷ missing ∷ []) ≡ refused clause.Needed condition 1
+-- a history of an open entry and one that it is to serve, which is legal and tagged, is refused by the condition with this
+-- number: FOUND is 1, the number of the first
+abbrev pub IsRefusedBy : ℕ → Entry → Entry → Type 0
+IsRefusedBy condition opens serves = (F : Flat) (T : List (List (Option Tag)))
+    → IsLegal F (opens ∷ serves ∷ []) → IsTagged F T (opens ∷ serves ∷ [])
+    → history_refusal 0 no_numbers (with_open F T none_open) (opens ∷ serves ∷ []) ≡ refused clause.Needed condition 1
 
 abbrev pub OtherRootIsRefused : Type 0
-OtherRootIsRefused = IsRefusedBy 2 other_root
+OtherRootIsRefused = IsRefusedBy 2 other_root missing
 
 abbrev pub OwnedRootIsRefused : Type 0
-OwnedRootIsRefused = IsRefusedBy 3 owned_root
+OwnedRootIsRefused = IsRefusedBy 3 owned_root missing
+
+abbrev pub OtherLineIsRefused : Type 0
+OtherLineIsRefused = IsRefusedBy 2 other_line missing
+
+abbrev pub ClaimedEntryIsRefused : Type 0
+ClaimedEntryIsRefused = IsRefusedBy 3 claimed_entry load
 
 -- a seventh fill, which the tags allow, is refused by the first condition: FOUND is 7, whatever the numbers of the others
 abbrev pub SeventhIsRefused : Type 0

@@ -18,6 +18,7 @@ mod illegal;
 mod laws;
 #[cfg(test)]
 mod one_page;
+mod ownership_laws;
 mod pager;
 #[cfg(test)]
 mod replays;
@@ -41,9 +42,10 @@ pub use laws::{
     done_may_be_read, history_in_pieces, miss_is_allowed, ready_is_done, refused_unless_allowed,
     stays_clean, stays_valid, walk_finds_entry,
 };
+pub use ownership_laws::blocks_have_one_owner;
 pub use state_laws::{
-    idle_entries_are_refused, judged_unless_follows, one_is_carried, pieces_join, quiet_may_follow,
-    state_in_pieces, state_is_each, worked_histories_are_needed,
+    idle_entries_are_refused, one_is_carried, pieces_join, quiet_may_follow,
+    refused_unless_follows, state_in_pieces, state_is_each, worked_histories_are_needed,
 };
 pub use tags::Tags;
 pub use untold_laws::untold_where_told;

@@ -1,7 +1,7 @@
 //! Laws of the state that stands after a history, each shown by a function that does nothing.
 
-ghost use Rattle.spur_flat.specs.StateLaws.{FollowsInPieces, FollowWhereEach, JudgedUnlessFollows, LeadToEach, LegalButValuesInPieces, NeededInPieces, OneIsCarried, PiecesJoin, QuietMayFollow, StateInPieces, TaggedInPieces, UntoldFromOneJoin, UntoldPiecesJoin};
-ghost use Rattle.spur_flat.specs.Worked.{ManyLinesAreNeeded, OneLineIsNeeded, OtherRootIsRefused, OtherRootIsUseless, OwnedRootIsGreedy, OwnedRootIsRefused, SeventhIsRefused, SeventhIsTooMany, SixthIsNot};
+ghost use Rattle.spur_flat.specs.StateLaws.{FollowsInPieces, FollowWhereEach, LeadToEach, LegalButValuesInPieces, NeededInPieces, OneIsCarried, PiecesJoin, QuietMayFollow, StateInPieces, TaggedInPieces, UntoldFromOneJoin, UntoldPiecesJoin, RefusedUnlessFollows};
+ghost use Rattle.spur_flat.specs.Worked.{ManyLinesAreNeeded, OneLineIsNeeded, OtherRootIsRefused, OtherRootIsUseless, OwnedRootIsGreedy, OwnedRootIsRefused, SeventhIsRefused, SeventhIsTooMany, SixthIsNot, ClaimedEntryIsGreedy, ClaimedEntryIsRefused, OtherLineIsRefused, OtherLineIsUseless};
 
 /// All entries of a history may follow exactly where it is legal, tagged and needed, and the state after it has the flat
 /// state, the tags and the open entries after it.
@@ -11,8 +11,8 @@ pub fn state_is_each()
 {}
 
 /// Nothing of a history is refused exactly where all of it may follow, whatever the numbers of its entries.
-pub fn judged_unless_follows()
-    ensures { JudgedUnlessFollows }
+pub fn refused_unless_follows()
+    ensures { RefusedUnlessFollows }
 {}
 
 /// A history in two pieces: all of it may follow where the first piece may, and the second from where the first leads.
@@ -51,13 +51,17 @@ pub fn worked_histories_are_needed()
     ensures one_line { OneLineIsNeeded }
 {}
 
-/// What is not needed: a block that serves nothing, a block that is owned and only read, and a seventh open entry. Each is
-/// refused by its condition, with its numbers.
+/// What is not needed: a block that serves nothing, a write-back on a line that serves nothing, a block that is owned and
+/// only read, whether filled so or claimed, and a seventh open entry. Each is refused by its condition, with its numbers.
 pub fn idle_entries_are_refused()
     ensures useless { OtherRootIsUseless }
     ensures useless_refused { OtherRootIsRefused }
     ensures greedy { OwnedRootIsGreedy }
     ensures greedy_refused { OwnedRootIsRefused }
+    ensures useless_line { OtherLineIsUseless }
+    ensures useless_line_refused { OtherLineIsRefused }
+    ensures greedy_claim { ClaimedEntryIsGreedy }
+    ensures greedy_claim_refused { ClaimedEntryIsRefused }
     ensures sixth { SixthIsNot }
     ensures seventh { SeventhIsTooMany }
     ensures seventh_refused { SeventhIsRefused }
