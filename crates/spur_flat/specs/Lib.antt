@@ -15,3 +15,4 @@ pub mod Untold
 pub mod UntoldLaws
 pub mod StateLaws
 pub mod Worked
+pub mod Formed
