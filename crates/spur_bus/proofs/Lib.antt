@@ -18,3 +18,4 @@ pub mod StandFacts
 pub mod EmptyFacts
 pub mod OldFacts
 pub mod TestFacts
+pub mod NoLineFacts

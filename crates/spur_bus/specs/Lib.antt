@@ -4,3 +4,4 @@ pub mod Agrees
 pub mod Calls
 pub mod Stand
 pub mod Fits
+pub mod Empty

@@ -13,6 +13,7 @@
 #![tactic(auto)]
 
 mod calls;
+mod empty_laws;
 mod laws;
 mod place;
 mod snoop;
@@ -20,6 +21,7 @@ mod snoop;
 mod tests;
 
 pub use calls::{block_flush, claim, read_owned, read_shared, write_back};
+pub use empty_laws::{empty_caches_have_no_tags, no_line_is_memory};
 pub use laws::{
     claim_is_tagged, empty_caches_agree, flush_is_tagged, owned_memory_is_free, read_is_tagged,
     steps_are_carried, write_back_is_tagged,

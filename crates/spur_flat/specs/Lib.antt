@@ -19,3 +19,4 @@ pub mod UntoldLaws
 pub mod StateLaws
 pub mod Ownership
 pub mod Worked
+pub mod Formed

@@ -40,3 +40,8 @@ pub mod ReleaseFacts
 pub mod OutFacts
 pub mod ServeFacts
 pub mod CourseFacts
+pub mod AgainFacts
+pub mod BitFacts
+pub mod FewerFacts
+pub mod ReserveFacts
+pub mod OpeningFacts

@@ -14,17 +14,14 @@ use Rattle.spur_addr.specs.Pages.{page_at}
 use Rattle.spur_flat.specs.Table.{entry_at}
 use Rattle.spur_flat.specs.Validity.{AreTables, IsDataFrame, IsDeclared, IsTableFrame, IsValidFlat}
 use Rattle.spur_bus.specs.Calls.{line_count}
-use Rattle.spur_bus.specs.Logical.{logical_words}
 use Rattle.spur_swap.specs.Told.{HaveSlots}
 use Rattle.spur_frames.specs.Frames.{AreFrames, Frames, IsTaken, holder_of}
 use Rattle.spur_frames.specs.Clock.{page_held}
-use Rattle.spur_walk.specs.Present.{ArePresent, MayWalk}
-use Rattle.spur_walk.specs.Tables.{logical_flat}
-use Rattle.spur_walk.proofs.BeginFacts.{empty-walks}
 use Rattle.spur_pager.specs.View.{View}
-use Rattle.spur_pager.specs.Stand.{AreClean, AreFramed, HoldsPage, page_address, standing_flat, user_pages, with_told}
+use Rattle.spur_pager.specs.Stand.{AreClean, AreFramed, HoldsPage, page_address, user_pages}
 use Rattle.spur_pager.specs.Bench.{FitsEntry, FitsSlot, HasOnlyPages, IsBench, FitTogether, IsNamed, IsRight, MatchesSlot, NamesFrame, bench_pages, entry_in_slot, page_in_slot}
 use Rattle.spur_pager.proofs.EntryFacts.{page_again, page_user}
+use Rattle.spur_pager.proofs.OpeningFacts.{layout-stands}
 
 -- all words are looked at
 pub only_pages : (words : List ℕ) (n : ℕ) → 66560 ≤ n → ((k : ℕ) → k < n → IsRight k (slice_index words k)) → HasOnlyPages words
@@ -328,16 +325,12 @@ made_of memory frames told long tables e0 e1 e2 e3 first count table f5 f6 f7 wh
 abbrev empty : List (List (Option Line))
 empty = replicate 3 (replicate 128 None)
 
-abbrev base : Flat
-base = record { words = []; swap = replicate 4096 0; pages = bench_pages; tables = 1; frames = 3 }
-
 abbrev swap_of : Option (List ℕ) → List ℕ
 swap_of None = replicate 4096 0
 swap_of (Some words) = words
 
-told_flat : (words : List ℕ) (told : Option (List ℕ)) → record (with_told base told) { words = words } ≡ flat words (swap_of told)
-told_flat words None = refl
-told_flat words (Some swap) = refl
+told_swap : (told : Option (List ℕ)) (words : List ℕ) → told ≡ Some words → words ≡ swap_of told
+told_swap told words is = sym (ap swap_of is)
 
 swap_long : (words : List ℕ) (frames : Frames) (told : Option (List ℕ)) → FitTogether words frames told → length (swap_of told) ≡ 4096
 swap_long words frames None m = let none : ℕ = 0 in length-replicate 4096 none
@@ -348,23 +341,25 @@ count_128 = record { exponent = 7; power = refl; some_lines = omega arith; few_l
 
 made_empty : (w : View) → w.caches ≡ empty → w.slots ≡ 4 → FitTogether w.memory w.frames w.pages → IsBench w
 made_empty w none slots m =
-    let swap : List ℕ = swap_of w.pages in
-    let valid : IsValidFlat (flat w.memory swap) = valid_flat w.memory w.frames w.pages m swap (swap_long w.memory w.frames w.pages m) in
-    let begin = empty-walks (flat [] swap) 3 128 w.memory (omega arith) (omega arith) count_128 valid in
-    let is : standing_flat base w ≡ flat w.memory swap =
-    ap (λ (cs : List (List (Option Line))). record (with_told base w.pages) { words = logical_words cs w.memory }) none
-    ∙ ap (λ (ws : List ℕ). record (with_told base w.pages) { words = ws }) begin.logical ∙ told_flat w.memory w.pages in
-    record {
-      rest = base;
-      stands = record {
-        walk = subst (λ (cs : List (List (Option Line))). MayWalk cs w.memory) (sym none) begin.walk;
-        valid = subst IsValidFlat (sym is) valid;
-        present = subst (λ (cs : List (List (Option Line))). ArePresent (logical_flat cs w.memory) cs) (sym none) begin.present;
-        framed = subst (λ (F : Flat). AreFramed F w.frames) (sym is) (framed w.memory w.frames w.pages m swap);
+    let F : Flat = flat w.memory (swap_of w.pages) in
+    let opens = layout-stands 3 128 F w (record {
+      empty = record {
+        some = omega arith;
+        few = omega arith;
+        count = count_128;
+        valid = valid_flat w.memory w.frames w.pages m (swap_of w.pages) (swap_long w.memory w.frames w.pages m);
+        caches = none;
+        memory = refl;
         slots = slots;
-        clean = λ (words : List ℕ) (told : w.pages ≡ Some words).
-            subst AreClean (sym (is ∙ ap (λ (p : Option (List ℕ)). flat w.memory (swap_of p)) told)) (clean w.memory w.frames w.pages m words (m.clean words told));
+        told = told_swap w.pages;
       };
+      framed = framed w.memory w.frames w.pages m (swap_of w.pages);
+      clean = λ (words : List ℕ) (told : w.pages ≡ Some words).
+          subst (λ (p : Option (List ℕ)). AreClean (flat w.memory (swap_of p))) (sym told) (clean w.memory w.frames w.pages m words (m.clean words told));
+    }) in
+    record {
+      rest = F;
+      stands = opens.stands;
       tables = refl;
       frames = refl;
       boards = ap (λ (cs : List (List (Option Line))). length cs) none;

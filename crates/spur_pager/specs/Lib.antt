@@ -21,3 +21,7 @@ pub mod Finish
 pub mod Standing
 pub mod Laws
 pub mod Flushes
+pub mod Again
+pub mod Faults
+pub mod Reserve
+pub mod Opening

@@ -31,9 +31,11 @@ mod standing;
 mod store;
 #[cfg(test)]
 mod tests;
+mod turn_laws;
 
 pub use fault::ServeFault;
 pub use history::History;
 pub use laws::room_is_bounded;
 pub use serving::serve;
 pub use store::Store;
+pub use turn_laws::{faults_fall, opening_stands, stands_again, turn_has_room};

@@ -14,3 +14,15 @@ pub mod ValidFacts
 pub mod BeginFacts
 pub mod TestFacts
 pub mod CarryFacts
+pub mod PlannedFacts
+pub mod SameFacts
+pub mod DataFacts
+pub mod WrittenFacts
+pub mod StoreFacts
+pub mod MadeFacts
+pub mod OpenedFacts
+pub mod ModestFacts
+pub mod AnsweredFacts
+pub mod LeftFacts
+pub mod BroughtFacts
+pub mod AskedFacts

@@ -6,3 +6,9 @@ pub mod Steps
 pub mod Bounds
 pub mod Laws
 pub mod Begins
+pub mod Stores
+pub mod Answered
+pub mod Made
+pub mod Fetches
+pub mod Brought
+pub mod Asked

@@ -15,6 +15,7 @@ mod plan;
 mod step;
 #[cfg(test)]
 mod tests;
+mod turn_laws;
 mod walk;
 
 pub use laws::{
@@ -25,4 +26,8 @@ pub use laws::{
 };
 pub use looked::{Looked, look};
 pub use step::Walked;
+pub use turn_laws::{
+    answers_are_carried, entries_are_made, hit_stores, moved_is_modest, plans_ask_as_the_table,
+    served_faults_leave_few, steps_bring_staying_pages,
+};
 pub use walk::{advance, advance_entry};

@@ -1,0 +1,48 @@
+//! Laws of a board's turn: what holds again after its steps, and how much of it is left. Each is shown by a function that
+//! does nothing.
+
+ghost use Rattle.spur_pager.specs.Again.{SameHasStepped, SameStandsAgain, StepHasStepped, StepStandsAgain, StepsAddUp, StepsStandAgain};
+ghost use Rattle.spur_pager.specs.Faults.{MovedFalls, PastIsNoFault, ServedFaultFalls, SteppedKeepsFaults};
+ghost use Rattle.spur_pager.specs.Opening.{LayoutStands, OpeningStands};
+ghost use Rattle.spur_pager.specs.Reserve.{FaultHasRoom, MovedLeavesRoom, ServedLeavesRoom, StepsLeaveRoom, TurnRoomIsBounded};
+
+/// After a step of the walk the state stands again, with the same flat state (`step`); so it does after several (`steps`),
+/// and in a view that shows the same (`same`). That steps led from one view to another is known of one step (`one`), of
+/// none (`none`), and of steps after steps (`more`), so that a loop can keep it.
+pub fn stands_again()
+    ensures step { StepStandsAgain }
+    ensures steps { StepsStandAgain }
+    ensures same { SameStandsAgain }
+    ensures one { StepHasStepped }
+    ensures none { SameHasStepped }
+    ensures more { StepsAddUp }
+{}
+
+/// A fault of an access that was served leaves fewer that may be, and its kind and those that were past are past
+/// (`served`). A kind that is past does not answer (`past`), so each is served at most once in a turn. Steps towards the
+/// access leave as many faults, and the same kinds past (`stepped`), and with each of them fewer steps are left (`moved`).
+pub fn faults_fall()
+    ensures served { ServedFaultFalls }
+    ensures past { PastIsNoFault }
+    ensures stepped { SteppedKeepsFaults }
+    ensures moved { MovedFalls }
+{}
+
+/// What the rest of a turn may still append is one number. Where a fault answers that is served, it has room for the
+/// fault's entry and for serving it (`fault`), and then for the rest (`served`); a step lowers it by one (`moved`), and
+/// several by as many as they are (`steps`). It is never more than the numbers of frames and of caches say (`bounded`).
+pub fn turn_has_room()
+    ensures fault { FaultHasRoom }
+    ensures served { ServedLeavesRoom }
+    ensures moved { MovedLeavesRoom }
+    ensures steps { StepsLeaveRoom }
+    ensures bounded { TurnRoomIsBounded }
+{}
+
+/// With empty caches, a frame table that has the frames of the valid pages, and clean pages as their slots the state stands,
+/// and it is the one before anything was done (`layout`). So it is where no page's entry is valid and all frames are free
+/// (`opening`).
+pub fn opening_stands()
+    ensures layout { LayoutStands }
+    ensures opening { OpeningStands }
+{}
