@@ -72,14 +72,14 @@ set-dropped lists holder at within =
 
 -- what the boards are after the own one was changed and the others saw the transaction: `y` is the own board with these lines
 pub record Tells {X : Type 0} (lens : Lens X) (own at : ℕ) (kind : BusKind) (boards after : List X) (lines : List (Option Line)) : Type 0 where
-  pub told : caches lens after ≡ each_from (told_unless own at kind) 0 (set (caches lens boards) own lines)
+  pub caches_are : caches lens after ≡ each_from (told_unless own at kind) 0 (set (caches lens boards) own lines)
   pub only : OnlyLines lens boards after
 
 pub tells : {X : Type 0} (lens : Lens X) → IsLens lens → (own at : ℕ) (kind : BusKind) (boards after : List X) (d y : X) (lines : List (Option Line)) → own < length boards
     → y ≡ lens.with_lines (get_or boards own d) lines → caches lens after ≡ each_from (told_unless own at kind) 0 (caches lens (set boards own y))
     → OnlyLines lens (set boards own y) after → Tells lens own at kind boards after lines
 tells {X} lens lawful own at kind boards after d y lines within y_is told only = record {
-  told = told ∙ ap (λ (lists : List (List (Option Line))). each_from (told_unless own at kind) 0 lists) (caches-set lens lawful boards own d y lines y_is);
+  caches_are = told ∙ ap (λ (lists : List (List (Option Line))). each_from (told_unless own at kind) 0 lists) (caches-set lens lawful boards own d y lines y_is);
   only = only_lines-then lens lawful boards (set boards own y) after (only_lines-set lens lawful boards own d y lines within y_is) only;
 }
 
@@ -91,14 +91,14 @@ within_caches lens boards b within = subst (λ (n : ℕ). b < n) (sym (L.length-
 pub filled_caches : {X : Type 0} (lens : Lens X) → IsLens lens → (own at : ℕ) (kind : BusKind) (fresh : Line) (boards after : List X) (d : X) → own < length boards
     → Tells lens own at kind boards after (with_line (lens.lines_of (get_or boards own d)) fresh) → caches lens after ≡ turned (caches lens boards) own at kind fresh
 filled_caches lens lawful own at kind fresh boards after d within t =
-    t.told ∙ ap (λ (ls : List (Option Line)). each_from (told_unless own at kind) 0 (set (caches lens boards) own (with_line ls fresh))) (sym (lines_here lens.lines_of boards own d within))
+    t.caches_are ∙ ap (λ (ls : List (Option Line)). each_from (told_unless own at kind) 0 (set (caches lens boards) own (with_line ls fresh))) (sym (lines_here lens.lines_of boards own d within))
     ∙ told-set (caches lens boards) own at kind fresh (within_caches lens boards own within)
 
 pub restated_caches : {X : Type 0} (lens : Lens X) → IsLens lens → (own at : ℕ) (kind : BusKind) (state : BlockState) (boards after : List X) (d : X) → own < length boards → state ≢ Invalid
     → IsSome (line_of_block (caches lens boards) own at) → Tells lens own at kind boards after (with_state (lens.lines_of (get_or boards own d)) at state)
     → caches lens after ≡ restated (caches lens boards) own at kind state
 restated_caches lens lawful own at kind state boards after d within alive some t =
-    t.told ∙ ap (λ (ls : List (Option Line)). each_from (told_unless own at kind) 0 (set (caches lens boards) own (with_state ls at state))) (sym (lines_here lens.lines_of boards own d within))
+    t.caches_are ∙ ap (λ (ls : List (Option Line)). each_from (told_unless own at kind) 0 (set (caches lens boards) own (with_state ls at state))) (sym (lines_here lens.lines_of boards own d within))
     ∙ told-restated (caches lens boards) own at kind state (line_of_block (caches lens boards) own at) (within_caches lens boards own within) alive refl some
 
 pub dropped_caches : {X : Type 0} (lens : Lens X) → IsLens lens → (holder at : ℕ) (boards : List X) (d y : X) → holder < length boards
