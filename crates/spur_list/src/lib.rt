@@ -151,4 +151,12 @@ mod tests {
         assert_eq!(rt; list.as_slice(), [1u32, 30, 40, 50, 5].as_slice());
         Ok(())
     }
+
+    /// Takes a value that may go to another thread.
+    fn take_sendable<T: Send + Drop>(_value: T) {}
+
+    #[test]
+    fn a_list_may_go_to_another_thread(rt: HostRuntime) {
+        take_sendable::<Items<u32>>(Items::new(rt.alloc()));
+    }
 }

@@ -202,4 +202,13 @@ mod tests {
         assert_eq!(rt; held[0], 0);
         Ok(())
     }
+
+    /// Takes a value that may go to another thread.
+    fn take_sendable<T: Send + Drop>(_value: T) {}
+
+    #[test]
+    fn a_memory_may_go_to_another_thread(rt: HostRuntime) -> Result<(), Fail> {
+        take_sendable(Phys::new(rt.alloc(), 1)?);
+        Ok(())
+    }
 }
