@@ -6,12 +6,12 @@ use Rattle.std.proofs.Common.{zero-add}
 use Rattle.std.proofs.lemmas.List.{length-set}
 use Rattle.spur_addr.specs.Address.{block_of}
 use Rattle.spur_cache.specs.declared.line.Line.{Line}
-use Rattle.spur_cache.specs.Lines.{IsCache, IsHeld, found, line_at, slot_of, set_found, in_state}
+use Rattle.spur_cache.specs.Lines.{IsCache, IsHeld, found, line_at, index_of, set_found, in_state}
 use Rattle.spur_snoop.specs.declared.BlockState.{BlockState}
 use Rattle.spur_snoop.specs.declared.BlockState.TheVariants.{Invalid, UnOwned, OwnedNonExclusive, OwnedExclusive}
 use Rattle.spur_snoop.specs.declared.BusKind.{BusKind}
 use Rattle.spur_snoop.specs.Protocol.{is_owned, snooped_of}
-use Rattle.spur_bus.specs.Boards.{line_of, line_in, told_line, told, turned_lines, turned}
+use Rattle.spur_bus.specs.Boards.{line_of, line_in, snooped_line, snooped_lines, turned_lines, turned}
 use Rattle.spur_bus.specs.Agrees.{Agrees}
 use Rattle.spur_snoop.specs.Size.{IsLineCount}
 use Rattle.spur_snoop.specs.declared.BusKind.TheVariants as bus
@@ -169,18 +169,18 @@ exclusive caches own at kind fresh agree may i j s t a b (Other olda ai la ca) (
 
 -- how many caches and lines there are
 
-length-told : (lines : List (Option Line)) (at : ℕ) (kind : BusKind) (o : Option Line) → found lines at ≡ o → length (told_line lines at kind o) ≡ length lines
+length-told : (lines : List (Option Line)) (at : ℕ) (kind : BusKind) (o : Option Line) → found lines at ≡ o → length (snooped_line lines at kind o) ≡ length lines
 length-told lines at kind None is = refl
 length-told lines at kind (Some x) is =
-    ap (λ (o : Option Line). length (set_found lines (slot_of lines (block_of at)) (snooped_of x.state kind) o)) is
-    ∙ length-set lines (slot_of lines (block_of at)) (in_state (snooped_of x.state kind) x)
+    ap (λ (o : Option Line). length (set_found lines (index_of lines (block_of at)) (snooped_of x.state kind) o)) is
+    ∙ length-set lines (index_of lines (block_of at)) (in_state (snooped_of x.state kind) x)
 
 length-if : (b : Bool) (lines news : List (Option Line)) (slot : ℕ) (fresh : Line) → length news ≡ length lines → length (if b then slice_set lines slot (Some fresh) else news) ≡ length lines
 length-if true lines news slot fresh h = length-set lines slot (Some fresh)
 length-if false lines news slot fresh h = h
 
 pub length-read : (own at : ℕ) (kind : BusKind) (fresh : Line) (i : ℕ) (lines : List (Option Line)) → length (turned_lines own at kind fresh i lines) ≡ length lines
-length-read own at kind fresh i lines = length-if (i == own) lines (told lines at kind) (slot_of lines fresh.tag) fresh (length-told lines at kind (found lines at) refl)
+length-read own at kind fresh i lines = length-if (i == own) lines (snooped_lines lines at kind) (index_of lines fresh.tag) fresh (length-told lines at kind (found lines at) refl)
 
 -- a cache after it was one before
 pub record Was (caches : List (List (Option Line))) (own at : ℕ) (kind : BusKind) (fresh : Line) (i : ℕ) (now : List (Option Line)) : Type 0 where
@@ -203,7 +203,7 @@ length-was caches own at kind fresh i now w = ap (λ (ls : List (Option Line)). 
 
 -- each line stands on its place, and is one that a cache may hold
 pub record Sound (lines : List (Option Line)) (s : ℕ) (l : Line) : Type 0 where
-  pub place : slot_of lines l.tag ≡ s
+  pub place : index_of lines l.tag ≡ s
   pub sound : IsHeld l
 
 came_held : (block : ℕ) (kind : BusKind) (old new : Line) → CameFrom block kind old new → IsHeld old → IsHeld new
@@ -223,15 +223,15 @@ placed_in caches own at kind fresh agree may i now h w s l there (Mine e apart o
 placed_in caches own at kind fresh agree may i now h w s l there (Other old apart old_there came) =
     let p = agree.each i w.lines w.there in
     let stood : line_at w.lines s ≡ Some old = ap (λ (o : Option (List (Option Line))). line_of o s) (sym w.there) ∙ old_there in
-    record { place = ap (slot_of w.lines) came.tag ∙ p.placed s old stood; sound = came_held (block_of at) kind old l came (p.held s old stood) }
+    record { place = ap (index_of w.lines) came.tag ∙ p.placed s old stood; sound = came_held (block_of at) kind old l came (p.held s old stood) }
 placed_in caches own at kind fresh agree may i now h w s l there (Fresh e is) =
-    let slot : ℕ = slot_of w.lines fresh.tag in
+    let slot : ℕ = index_of w.lines fresh.tag in
     let p = agree.each i w.lines w.there in
     let set_is : line_at (slice_set w.lines slot (Some fresh)) s ≡ Some l =
     ap (λ (ls : List (Option Line)). line_at ls s) (sym (read_mine own at kind fresh i w.lines e)) ∙ ap (λ (ls : List (Option Line)). line_at ls s) (sym w.is) ∙ there in
     let sound : IsHeld l = subst (λ (m : Line). IsHeld m) (sym is) may.sound in
     ⊎_elim
-    (λ (f : s ≡ slot). record { place = ap (slot_of w.lines) (ap (λ (m : Line). m.tag) is) ∙ sym f; sound = sound })
+    (λ (f : s ≡ slot). record { place = ap (index_of w.lines) (ap (λ (m : Line). m.tag) is) ∙ sym f; sound = sound })
     (λ (f : s ≢ slot). record { place = p.placed s l (sym (set_away w.lines slot s (Some fresh) f) ∙ set_is); sound = sound })
     (cases_eq s slot)
 

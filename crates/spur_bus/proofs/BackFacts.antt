@@ -10,7 +10,7 @@ use Rattle.spur_snoop.specs.declared.BlockState.TheVariants.{UnOwned}
 use Rattle.spur_snoop.specs.Protocol.{is_owned}
 use Rattle.spur_phys.specs.Blocks.{block_start, block_place, with_words, with_block}
 use Rattle.spur_bus.specs.Boards.{line_of_block, turned}
-use Rattle.spur_bus.specs.Agrees.{Agrees, IsAt, Serves}
+use Rattle.spur_bus.specs.Agrees.{Agrees, IsAt, AgreesWithMemory}
 use Rattle.spur_bus.specs.Calls.{HasLine, written_back}
 use Rattle.spur_snoop.specs.declared.BusKind.TheVariants as bus
 use Rattle.spur_bus.proofs.Turn.{IsWritten, Returns}
@@ -94,7 +94,7 @@ written_as : (line : Line) (state : BlockState) (memory : List ℕ) (k : ℕ) (o
 written_as line state memory k old (inl same) = inl same
 written_as line state memory k old (inr w) = inr (record { at = record { frame = w.at.frame; position = w.at.position }; word = w.word })
 
-pub room_of : (caches : List (List (Option Line))) (memory : List ℕ) (b at : ℕ) (line : Line) → Serves caches memory → b < length caches → line_of_block caches b at ≡ Some line → start_of line + 8 ≤ length memory
+pub room_of : (caches : List (List (Option Line))) (memory : List ℕ) (b at : ℕ) (line : Line) → AgreesWithMemory caches memory → b < length caches → line_of_block caches b at ≡ Some line → start_of line + 8 ≤ length memory
 room_of caches memory b at line serves within there =
     let here = is_here caches b at line within there in
     let frame : line.frame * 1024 + 1024 ≤ length memory = serves.within b here.slot line here.there in
@@ -105,7 +105,7 @@ room_of caches memory b at line serves within there =
 pub place_is : (memory : List ℕ) (at : ℕ) (line : Line) → line.tag ≡ block_of at → with_block memory (block_place line.frame at) line.words ≡ with_block memory (start_of line) line.words
 place_is memory at line tag = ap (λ (n : ℕ). with_block memory (block_start line.frame n) line.words) (sym tag)
 
-pub back_all : (caches news : List (List (Option Line))) (old new : List ℕ) (b at : ℕ) (h : HasLine caches b at is_owned) → Agrees caches → Serves caches old → b < length caches
+pub back_all : (caches news : List (List (Option Line))) (old new : List ℕ) (b at : ℕ) (h : HasLine caches b at is_owned) → Agrees caches → AgreesWithMemory caches old → b < length caches
     → news ≡ turned caches b at bus.WriteBack (record h.line { state = UnOwned }) → new ≡ written_back old at (line_of_block caches b at) → Promised caches news old new
 back_all caches news old new b at h agree serves within is new_is =
     let line : Line = h.line in

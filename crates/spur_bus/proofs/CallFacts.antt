@@ -5,7 +5,7 @@ use Rattle.std.proofs.lemmas.List as L
 use Rattle.std.proofs.lemmas.Option.{slice_get-get_or}
 use Rattle.spur_addr.specs.Address.{block_of, block_start_of}
 use Rattle.spur_cache.specs.declared.line.Line.{Line}
-use Rattle.spur_cache.specs.Lines.{line_at, slot_of}
+use Rattle.spur_cache.specs.Lines.{line_at, index_of}
 use Rattle.spur_snoop.specs.declared.BlockState.{BlockState}
 use Rattle.spur_snoop.specs.declared.BlockState.TheVariants.{Invalid, UnOwned, OwnedNonExclusive, OwnedExclusive}
 use Rattle.spur_snoop.specs.declared.BusKind.{BusKind}
@@ -13,7 +13,7 @@ use Rattle.spur_snoop.specs.Protocol.{is_owned, snooped_of}
 use Rattle.spur_flat.specs.declared.tag.Tag.{Tag}
 use Rattle.spur_flat.specs.TagRules.{may_claim}
 use Rattle.spur_bus.specs.Boards.{line_of, line_in, line_of_block, turned_lines, turned}
-use Rattle.spur_bus.specs.Agrees.{Agrees, IsAt, Serves}
+use Rattle.spur_bus.specs.Agrees.{Agrees, IsAt, AgreesWithMemory}
 use Rattle.spur_bus.specs.Calls.{HasLine, tag_of, line_tag, cache_tags, tags_of, KeepsWords, KeepsAllWords, line_count}
 use Rattle.spur_snoop.specs.declared.BusKind.TheVariants as bus
 use Rattle.spur_flat.specs.TagLines as T
@@ -28,13 +28,13 @@ pub record IsHere (caches : List (List (Option Line))) (b at : ℕ) (line : Line
   pub slot : ℕ
   pub there : line_in caches b slot ≡ Some line
   pub tag : line.tag ≡ block_of at
-  pub slot_is : slot ≡ slot_of (get_or caches b []) (block_of at)
+  pub slot_is : slot ≡ index_of (get_or caches b []) (block_of at)
   pub board : slice_get caches b ≡ Some (get_or caches b [])
 
 pub is_here : (caches : List (List (Option Line))) (b at : ℕ) (line : Line) → b < length caches → line_of_block caches b at ≡ Some line → IsHere caches b at line
 is_here caches b at line within is =
     let lines : List (Option Line) = get_or caches b [] in
-    let slot : ℕ = slot_of lines (block_of at) in
+    let slot : ℕ = index_of lines (block_of at) in
     let both = tagged_is (block_of at) (line_at lines slot) line is in
     let at_b : slice_get caches b ≡ Some lines = slice_get-get_or caches b [] within in
     record { slot = slot; there = ap (λ (o : Option (List (Option Line))). line_of o slot) at_b ∙ both.0; tag = both.1; slot_is = refl; board = at_b }
@@ -56,7 +56,7 @@ may_restate caches own at kind state line agree within here alive turn =
 pub at_same : (k : ℕ) (line : Line) (state : BlockState) → IsAt k (record line { state = state }) → IsAt k line
 at_same k line state h = record { frame = h.frame; position = h.position }
 
-pub move_restate : (caches : List (List (Option Line))) (own at : ℕ) (kind : BusKind) (state : BlockState) (line : Line) (old new : List ℕ) → Agrees caches → Serves caches old → IsHere caches own at line
+pub move_restate : (caches : List (List (Option Line))) (own at : ℕ) (kind : BusKind) (state : BlockState) (line : Line) (old new : List ℕ) → Agrees caches → AgreesWithMemory caches old → IsHere caches own at line
     → length new ≡ length old
     → ((k : ℕ) → (slice_index new k ≡ slice_index old k) ⊎ IsWritten (record line { state = state }) new k)
     → ((k : ℕ) → kind ≡ bus.WriteBack → IsAt k (record line { state = state }) → slice_index new k ≡ slice_index line.words (k % 8))
@@ -65,9 +65,9 @@ move_restate caches own at kind state line old new agree serves here size memory
   within = serves.within own here.slot line here.there;
   size = size;
   words = λ (k : ℕ) (is : IsAt k (record line { state = state })). serves.words own here.slot k line here.there (at_same k line state is);
-  victim = λ (lines : List (Option Line)) (l : Line) (board : slice_get caches own ≡ Some lines) (there : line_at lines (slot_of lines line.tag) ≡ Some l) (owned : is_owned l.state ≡ true).
+  victim = λ (lines : List (Option Line)) (l : Line) (board : slice_get caches own ≡ Some lines) (there : line_at lines (index_of lines line.tag) ≡ Some l) (owned : is_owned l.state ≡ true).
       let same : get_or caches own [] ≡ lines = some_same (get_or caches own []) lines (sym here.board ∙ board) in
-      let slot : slot_of lines line.tag ≡ here.slot = ap (slot_of lines) here.tag ∙ ap (λ (ls : List (Option Line)). slot_of ls (block_of at)) (sym same) ∙ sym here.slot_is in
+      let slot : index_of lines line.tag ≡ here.slot = ap (index_of lines) here.tag ∙ ap (λ (ls : List (Option Line)). index_of ls (block_of at)) (sym same) ∙ sym here.slot_is in
       let both : Some l ≡ Some line = sym there ∙ ap (line_at lines) slot ∙ ap (λ (o : Option (List (Option Line))). line_of o here.slot) (sym board) ∙ here.there in
       ap (λ (m : Line). m.tag) (some_same l line both) ∙ here.tag;
   memory = memory;
@@ -84,11 +84,11 @@ pub start_block : (at : ℕ) → block_of (block_start_of at) ≡ block_of at
 start_block at = omega arith
 
 pub tags_restated : (caches : List (List (Option Line))) (b at : ℕ) (kind : BusKind) (state : BlockState) (line : Line) → b < length caches → line_of_block caches b at ≡ Some line → line.tag ≡ block_of at
-    → tags_of (turned caches b at kind (record line { state = state })) ≡ T.bus_on (tags_of caches) b (block_of (block_start_of at)) kind (T.restated (T.tag_at (tags_of caches) b (block_of (block_start_of at))) state)
+    → tags_of (turned caches b at kind (record line { state = state })) ≡ T.bus_on (tags_of caches) b (block_of (block_start_of at)) kind (T.restated_tag (T.tag_at (tags_of caches) b (block_of (block_start_of at))) state)
 tags_restated caches b at kind state line within is tag =
     tags-turned caches b at kind (record line { state = state }) tag
-    ∙ ap (λ (t : Option Tag). T.bus_on (tags_of caches) b (block_of at) kind (T.restated t state)) (sym (tags_in caches b at line within is))
-    ∙ ap (λ (n : ℕ). T.bus_on (tags_of caches) b n kind (T.restated (T.tag_at (tags_of caches) b n) state)) (sym (start_block at))
+    ∙ ap (λ (t : Option Tag). T.bus_on (tags_of caches) b (block_of at) kind (T.restated_tag t state)) (sym (tags_in caches b at line within is))
+    ∙ ap (λ (n : ℕ). T.bus_on (tags_of caches) b n kind (T.restated_tag (T.tag_at (tags_of caches) b n) state)) (sym (start_block at))
 
 claims : (st : BlockState) → snooped_of st bus.Claim ≡ Invalid
 claims Invalid = refl
@@ -111,7 +111,7 @@ pub record Promised (caches news : List (List (Option Line))) (old new : List �
   pub keeps : KeepsWords caches news old new
   pub lines : line_count news ≡ line_count caches
 
-pub turned_keeps : (caches : List (List (Option Line))) (own at : ℕ) (kind : BusKind) (fresh : Line) (old new : List ℕ) → Agrees caches → MayTurn caches own at kind fresh → Serves caches old → MayMove caches own at kind fresh old new
+pub turned_keeps : (caches : List (List (Option Line))) (own at : ℕ) (kind : BusKind) (fresh : Line) (old new : List ℕ) → Agrees caches → MayTurn caches own at kind fresh → AgreesWithMemory caches old → MayMove caches own at kind fresh old new
     → KeepsWords caches (turned caches own at kind fresh) old new
 turned_keeps caches own at kind fresh old new agree may serves move = record {
   serves = serves-turned caches own at kind fresh old new agree may serves move;
@@ -121,7 +121,7 @@ turned_keeps caches own at kind fresh old new agree may serves move = record {
 pub count-turned : (caches : List (List (Option Line))) (own at : ℕ) (kind : BusKind) (fresh : Line) → line_count (turned caches own at kind fresh) ≡ line_count caches
 count-turned caches own at kind fresh = count-each (turned_lines own at kind fresh) caches (length-read own at kind fresh)
 
-pub turned_all : (caches news : List (List (Option Line))) (own at : ℕ) (kind : BusKind) (fresh : Line) (old new : List ℕ) → Agrees caches → MayTurn caches own at kind fresh → Serves caches old → MayMove caches own at kind fresh old new
+pub turned_all : (caches news : List (List (Option Line))) (own at : ℕ) (kind : BusKind) (fresh : Line) (old new : List ℕ) → Agrees caches → MayTurn caches own at kind fresh → AgreesWithMemory caches old → MayMove caches own at kind fresh old new
     → news ≡ turned caches own at kind fresh → Promised caches news old new
 turned_all caches news own at kind fresh old new agree may serves move is =
     subst (λ (n : List (List (Option Line))). Promised caches n old new) (sym is) (record {
@@ -147,11 +147,11 @@ claim_keeps caches news b at h agree within is memory serves =
 
 pub restate_tags : (caches news : List (List (Option Line))) (b at start : ℕ) (kind : BusKind) (state : BlockState) (line : Line) → b < length caches → line_of_block caches b at ≡ Some line → start ≡ block_start_of at
     → news ≡ turned caches b at kind (record line { state = state })
-    → tags_of news ≡ T.bus_on (tags_of caches) b (block_of start) kind (T.restated (T.tag_at (tags_of caches) b (block_of start)) state)
+    → tags_of news ≡ T.bus_on (tags_of caches) b (block_of start) kind (T.restated_tag (T.tag_at (tags_of caches) b (block_of start)) state)
 restate_tags caches news b at start kind state line within there start_is is =
     ap tags_of is ∙ tags_restated caches b at kind state line within there (is_here caches b at line within there).tag
-    ∙ ap (λ (n : ℕ). T.bus_on (tags_of caches) b (block_of n) kind (T.restated (T.tag_at (tags_of caches) b (block_of n)) state)) (sym start_is)
+    ∙ ap (λ (n : ℕ). T.bus_on (tags_of caches) b (block_of n) kind (T.restated_tag (T.tag_at (tags_of caches) b (block_of n)) state)) (sym start_is)
 
 -- the frame of a line is one of the memory's
-pub frame_room : (caches : List (List (Option Line))) (memory : List ℕ) (b at : ℕ) (line : Line) → Serves caches memory → b < length caches → line_of_block caches b at ≡ Some line → line.frame * 1024 + 1024 ≤ length memory
+pub frame_room : (caches : List (List (Option Line))) (memory : List ℕ) (b at : ℕ) (line : Line) → AgreesWithMemory caches memory → b < length caches → line_of_block caches b at ≡ Some line → line.frame * 1024 + 1024 ≤ length memory
 frame_room caches memory b at line serves within there = let here = is_here caches b at line within there in serves.within b here.slot line here.there

@@ -7,7 +7,7 @@ use Rattle.std.proofs.lemmas.List.{length-set}
 use Rattle.spur_addr.specs.Address.{block_of, block_start_of}
 use Rattle.spur_cache.specs.declared.line.Line.{Line}
 use Rattle.spur_snoop.specs.Size.{IsLineCount}
-use Rattle.spur_cache.specs.Lines.{IsCache, found, line_at, slot_of, with_state, set_found}
+use Rattle.spur_cache.specs.Lines.{IsCache, found, line_at, index_of, with_state, set_found}
 use Rattle.spur_snoop.specs.declared.BlockState.TheVariants.{Invalid}
 use Rattle.spur_snoop.specs.Protocol.{is_owned}
 use Rattle.spur_phys.specs.Blocks.{block_place, with_block}
@@ -15,7 +15,7 @@ use Rattle.spur_flat.specs.declared.tag.Tag.{Tag}
 use Rattle.spur_flat.specs.TagLines.{each_from}
 use Rattle.spur_bus.specs.Boards.{line_of, line_in, line_of_block, dropped_lines, dropped}
 use Rattle.spur_bus.specs.Logical.{word_or, logical_word}
-use Rattle.spur_bus.specs.Agrees.{Agrees, IsAt, Serves}
+use Rattle.spur_bus.specs.Agrees.{Agrees, IsAt, AgreesWithMemory}
 use Rattle.spur_bus.specs.Calls.{flushed, cache_tags, tags_of, KeepsWords}
 use Rattle.spur_flat.specs.TagLines as T
 use Rattle.spur_bus.proofs.Turn.{IsWritten}
@@ -33,19 +33,19 @@ line-dropped caches holder at i s =
     (slice_get-each (dropped_lines holder at) 0 caches i ∙ ap (λ (n : ℕ). option_map (dropped_lines holder at n) (slice_get caches i)) (zero-add i))
 
 -- one cache: what stands after it stood before, and is not the block
-dropped_one : (lines : List (Option Line)) (at s : ℕ) (l : Line) (o : Option Line) → found lines at ≡ o → line_at (set_found lines (slot_of lines (block_of at)) Invalid o) s ≡ Some l → line_at lines s ≡ Some l
+dropped_one : (lines : List (Option Line)) (at s : ℕ) (l : Line) (o : Option Line) → found lines at ≡ o → line_at (set_found lines (index_of lines (block_of at)) Invalid o) s ≡ Some l → line_at lines s ≡ Some l
 dropped_one lines at s l None is h = h
 dropped_one lines at s l (Some x) is h =
-    let slot : ℕ = slot_of lines (block_of at) in
+    let slot : ℕ = index_of lines (block_of at) in
     ⊎_elim
     (λ (e : s ≡ slot). let clash : None ≡ Some l = set_hit lines slot None l (ap (line_at (slice_set lines slot None)) (sym e) ∙ h) in cc)
     (λ (apart : s ≢ slot). sym (set_away lines slot s None apart) ∙ h)
     (cases_eq s slot)
 
-kept_one : (lines : List (Option Line)) (at s : ℕ) (l : Line) (o : Option Line) → found lines at ≡ o → line_at lines s ≡ Some l → l.tag ≢ block_of at → line_at (set_found lines (slot_of lines (block_of at)) Invalid o) s ≡ Some l
+kept_one : (lines : List (Option Line)) (at s : ℕ) (l : Line) (o : Option Line) → found lines at ≡ o → line_at lines s ≡ Some l → l.tag ≢ block_of at → line_at (set_found lines (index_of lines (block_of at)) Invalid o) s ≡ Some l
 kept_one lines at s l None is there away = there
 kept_one lines at s l (Some x) is there away =
-    let slot : ℕ = slot_of lines (block_of at) in
+    let slot : ℕ = index_of lines (block_of at) in
     let x_is = tagged_is (block_of at) (line_at lines slot) x is in
     set_away lines slot s None (λ (e : s ≡ slot).
     let both : Some x ≡ Some l = sym x_is.0 ∙ ap (line_at lines) (sym e) ∙ there in
@@ -91,7 +91,7 @@ length-if true news lines h = h
 length-if false news lines h = refl
 
 pub length-lines : (holder at i : ℕ) (lines : List (Option Line)) → length (dropped_lines holder at i lines) ≡ length lines
-length-lines holder at i lines = length-if (i == holder) (with_state lines at Invalid) lines (length-found lines (slot_of lines (block_of at)) (found lines at))
+length-lines holder at i lines = length-if (i == holder) (with_state lines at Invalid) lines (length-found lines (index_of lines (block_of at)) (found lines at))
 
 pub record Was (caches : List (List (Option Line))) (holder at i : ℕ) (now : List (Option Line)) : Type 0 where
   pub lines : List (Option Line)
@@ -155,7 +155,7 @@ swap : {A B : Type 0} → A ⊎ B → B ⊎ A
 swap (inl a) = inr a
 swap (inr b) = inl b
 
-free_dropped : (caches : List (List (Option Line))) (holder at : ℕ) (line : Line) (old new : List ℕ) (k : ℕ) → Agrees caches → Serves caches old → MayDrop caches holder at line old new
+free_dropped : (caches : List (List (Option Line))) (holder at : ℕ) (line : Line) (old new : List ℕ) (k : ℕ) → Agrees caches → AgreesWithMemory caches old → MayDrop caches holder at line old new
     → ((j t : ℕ) (m : Line) → line_in (dropped caches holder at) j t ≡ Some m → OwnsAt (k / 1024) (k / 8 % 128) m → ⊥) → Owner caches (k / 1024) (k / 8 % 128) → slice_index new k ≡ logical_word caches old k
 free_dropped caches holder at line old new k agree serves may none (Free is before) =
     ⊎_elim
@@ -176,14 +176,14 @@ free_dropped caches holder at line old new k agree serves may none (Owned i s l 
     (cases_eq l.tag (block_of at)))
     (swap (cases_eq i holder))
 
-logical_in : (caches : List (List (Option Line))) (holder at : ℕ) (line : Line) (old new : List ℕ) (k : ℕ) → Agrees caches → Serves caches old → MayDrop caches holder at line old new
+logical_in : (caches : List (List (Option Line))) (holder at : ℕ) (line : Line) (old new : List ℕ) (k : ℕ) → Agrees caches → AgreesWithMemory caches old → MayDrop caches holder at line old new
     → Owner (dropped caches holder at) (k / 1024) (k / 8 % 128) → logical_word (dropped caches holder at) new k ≡ logical_word caches old k
 logical_in caches holder at line old new k agree serves may (Free is none) =
     ap (λ (w : Option (List ℕ)). word_or w (slice_index new k) k) is ∙ free_dropped caches holder at line old new k agree serves may none (owner caches (k / 1024) (k / 8 % 128))
 logical_in caches holder at line old new k agree serves may (Owned i s l there o is) =
     ap (λ (w : Option (List ℕ)). word_or w (slice_index new k) k) is ∙ sym (logical_owned caches old k i s l agree (stood caches holder at i s l there) o)
 
-pub keeps-dropped : (caches : List (List (Option Line))) (holder at : ℕ) (line : Line) (old new : List ℕ) → Agrees caches → Serves caches old → MayDrop caches holder at line old new → KeepsWords caches (dropped caches holder at) old new
+pub keeps-dropped : (caches : List (List (Option Line))) (holder at : ℕ) (line : Line) (old new : List ℕ) → Agrees caches → AgreesWithMemory caches old → MayDrop caches holder at line old new → KeepsWords caches (dropped caches holder at) old new
 keeps-dropped caches holder at line old new agree serves may =
     let logical : (k : ℕ) → logical_word (dropped caches holder at) new k ≡ logical_word caches old k =
     λ (k : ℕ). logical_in caches holder at line old new k agree serves may (owner (dropped caches holder at) (k / 1024) (k / 8 % 128)) in
@@ -206,7 +206,7 @@ size_if : (b : Bool) (line : Line) (old : List ℕ) → length (if b then with_b
 size_if true line old = length-words 8 old (start_of line) line.words
 size_if false line old = refl
 
-pub may_drop : (caches : List (List (Option Line))) (holder at : ℕ) (line : Line) (old new : List ℕ) → Serves caches old → holder < length caches → line_of_block caches holder at ≡ Some line
+pub may_drop : (caches : List (List (Option Line))) (holder at : ℕ) (line : Line) (old new : List ℕ) → AgreesWithMemory caches old → holder < length caches → line_of_block caches holder at ≡ Some line
     → new ≡ flushed old at (line_of_block caches holder at) → MayDrop caches holder at line old new
 may_drop caches holder at line old new serves within there is =
     let here = is_here caches holder at line within there in
@@ -221,7 +221,7 @@ may_drop caches holder at line old new serves within there is =
           ap (λ (b : Bool). slice_index (if b then with_block old (start_of line) line.words else old) k) owned ∙ block_word old line k room i;
     })
 
-pub dropped_all : (caches news : List (List (Option Line))) (holder at : ℕ) (line : Line) (old new : List ℕ) → Agrees caches → Serves caches old → holder < length caches → line_of_block caches holder at ≡ Some line
+pub dropped_all : (caches news : List (List (Option Line))) (holder at : ℕ) (line : Line) (old new : List ℕ) → Agrees caches → AgreesWithMemory caches old → holder < length caches → line_of_block caches holder at ≡ Some line
     → new ≡ flushed old at (line_of_block caches holder at) → news ≡ dropped caches holder at → Promised caches news old new
 dropped_all caches news holder at line old new agree serves within there new_is is =
     subst (λ (n : List (List (Option Line))). Promised caches n old new) (sym is) (record {
@@ -243,7 +243,7 @@ flushed_size old new at (Some line) is =
 -- the tags
 
 tags_one : (lines : List (Option Line)) (at : ℕ) (line : Line) → found lines at ≡ Some line → cache_tags (with_state lines at Invalid) ≡ T.with_tag (cache_tags lines) (block_of at) None
-tags_one lines at line is = ap (λ (o : Option Line). cache_tags (set_found lines (slot_of lines (block_of at)) Invalid o)) is ∙ with-tags lines (block_of at) None
+tags_one lines at line is = ap (λ (o : Option Line). cache_tags (set_found lines (index_of lines (block_of at)) Invalid o)) is ∙ with-tags lines (block_of at) None
 
 tags_from : (caches : List (List (Option Line))) (at : ℕ) (line : Line) (i k : ℕ) → i < length caches → found (get_or caches i []) at ≡ Some line
     → map cache_tags (each_from (dropped_lines (k + i) at) k caches) ≡ slice_set (map cache_tags caches) i (T.with_tag (get_or (map cache_tags caches) i []) (block_of at) None)

@@ -4,12 +4,12 @@ use Rattle.std.specs.Option.{option_map}
 use Rattle.std.proofs.lemmas.Bool.{cases_eq, eq-eqb, eqb-true, ne_eqb}
 use Rattle.spur_addr.specs.Address.{block_of}
 use Rattle.spur_cache.specs.declared.line.Line.{Line}
-use Rattle.spur_cache.specs.Lines.{found, line_at, slot_of}
+use Rattle.spur_cache.specs.Lines.{found, line_at, index_of}
 use Rattle.spur_snoop.specs.declared.BlockState.{BlockState}
 use Rattle.spur_snoop.specs.declared.BlockState.TheVariants.{Invalid}
 use Rattle.spur_snoop.specs.declared.BusKind.{BusKind}
 use Rattle.spur_snoop.specs.Protocol.{snooped_of}
-use Rattle.spur_bus.specs.Boards.{line_of, line_in, told, turned_lines, turned}
+use Rattle.spur_bus.specs.Boards.{line_of, line_in, snooped_lines, turned_lines, turned}
 use Rattle.spur_bus.specs.Agrees.{Agrees}
 use Rattle.spur_bus.proofs.Turn.{CameFrom, state_after}
 use Rattle.spur_bus.proofs.EachFacts.{slice_get-each}
@@ -22,11 +22,11 @@ line-turned caches own at kind fresh i s =
     ap (λ (o : Option (List (Option Line))). line_of o s)
     (slice_get-each (turned_lines own at kind fresh) 0 caches i ∙ ap (λ (n : ℕ). option_map (turned_lines own at kind fresh n) (slice_get caches i)) (zero-add i))
 
-pub read_mine : (own at : ℕ) (kind : BusKind) (fresh : Line) (i : ℕ) (lines : List (Option Line)) → i ≡ own → turned_lines own at kind fresh i lines ≡ slice_set lines (slot_of lines fresh.tag) (Some fresh)
-read_mine own at kind fresh i lines is = ap (λ (b : Bool). if b then slice_set lines (slot_of lines fresh.tag) (Some fresh) else told lines at kind) (eq-eqb i own is)
+pub read_mine : (own at : ℕ) (kind : BusKind) (fresh : Line) (i : ℕ) (lines : List (Option Line)) → i ≡ own → turned_lines own at kind fresh i lines ≡ slice_set lines (index_of lines fresh.tag) (Some fresh)
+read_mine own at kind fresh i lines is = ap (λ (b : Bool). if b then slice_set lines (index_of lines fresh.tag) (Some fresh) else snooped_lines lines at kind) (eq-eqb i own is)
 
-pub read_other : (own at : ℕ) (kind : BusKind) (fresh : Line) (i : ℕ) (lines : List (Option Line)) → i ≢ own → turned_lines own at kind fresh i lines ≡ told lines at kind
-read_other own at kind fresh i lines apart = ap (λ (b : Bool). if b then slice_set lines (slot_of lines fresh.tag) (Some fresh) else told lines at kind) (ne_eqb i own apart)
+pub read_other : (own at : ℕ) (kind : BusKind) (fresh : Line) (i : ℕ) (lines : List (Option Line)) → i ≢ own → turned_lines own at kind fresh i lines ≡ snooped_lines lines at kind
+read_other own at kind fresh i lines apart = ap (λ (b : Bool). if b then slice_set lines (index_of lines fresh.tag) (Some fresh) else snooped_lines lines at kind) (ne_eqb i own apart)
 
 -- a line after a transaction: the new one, one of the same cache that is of another block, or one that another cache had
 pub data From (caches : List (List (Option Line))) (own block : ℕ) (kind : BusKind) (fresh : Line) (i s : ℕ) (l : Line) : Type 0 where
@@ -38,7 +38,7 @@ from_in : (caches : List (List (Option Line))) (own at : ℕ) (kind : BusKind) (
     → Agrees caches → fresh.tag ≡ block_of at → slice_get caches i ≡ o → line_of (option_map (turned_lines own at kind fresh i) o) s ≡ Some l → From caches own (block_of at) kind fresh i s l
 from_in caches own at kind fresh i s l None agree tag is h = cc
 from_in caches own at kind fresh i s l (Some lines) agree tag is h =
-    let slot : ℕ = slot_of lines fresh.tag in
+    let slot : ℕ = index_of lines fresh.tag in
     ⊎_elim
     (λ (e : i ≡ own).
     let mine : line_at (slice_set lines slot (Some fresh)) s ≡ Some l = sym (ap (λ (ls : List (Option Line)). line_at ls s) (read_mine own at kind fresh i lines e)) ∙ h in
@@ -49,11 +49,11 @@ from_in caches own at kind fresh i s l (Some lines) agree tag is h =
     (λ (f : s ≢ slot).
     let kept : line_at lines s ≡ Some l = sym (set_away lines slot s (Some fresh) f) ∙ mine in
     Mine e
-    (λ (same : l.tag ≡ block_of at). f (sym ((agree.each i lines is).placed s l kept) ∙ ap (slot_of lines) (same ∙ sym tag)))
+    (λ (same : l.tag ≡ block_of at). f (sym ((agree.each i lines is).placed s l kept) ∙ ap (index_of lines) (same ∙ sym tag)))
     (ap (λ (o : Option (List (Option Line))). line_of o s) is ∙ kept))
     (cases_eq s slot))
     (λ (apart : i ≢ own).
-    let heard : line_at (told lines at kind) s ≡ Some l = sym (ap (λ (ls : List (Option Line)). line_at ls s) (read_other own at kind fresh i lines apart)) ∙ h in
+    let heard : line_at (snooped_lines lines at kind) s ≡ Some l = sym (ap (λ (ls : List (Option Line)). line_at ls s) (read_other own at kind fresh i lines apart)) ∙ h in
     let origin = told_origin lines at kind s l (agree.each i lines is) heard in
     Other origin.old apart (ap (λ (o : Option (List (Option Line))). line_of o s) is ∙ origin.stood) origin.came)
     (cases_eq i own)
@@ -110,14 +110,14 @@ other_stays caches own at kind fresh i s l agree there apart stays =
     other_in caches own at kind fresh i s l (slice_get caches i) agree refl there apart stays (l.tag == block_of at) refl
 
 mine_in : (caches : List (List (Option Line))) (own at : ℕ) (kind : BusKind) (fresh : Line) (s : ℕ) (l : Line) (o : Option (List (Option Line)))
-    → slice_get caches own ≡ o → line_of o s ≡ Some l → ((lines : List (Option Line)) → o ≡ Some lines → s ≢ slot_of lines fresh.tag) → line_in (turned caches own at kind fresh) own s ≡ Some l
+    → slice_get caches own ≡ o → line_of o s ≡ Some l → ((lines : List (Option Line)) → o ≡ Some lines → s ≢ index_of lines fresh.tag) → line_in (turned caches own at kind fresh) own s ≡ Some l
 mine_in caches own at kind fresh s l None is there away = cc
 mine_in caches own at kind fresh s l (Some lines) is there away =
     line-turned caches own at kind fresh own s ∙ ap (λ (o : Option (List (Option Line))). line_of (option_map (turned_lines own at kind fresh own) o) s) is
     ∙ ap (λ (ls : List (Option Line)). line_at ls s) (read_mine own at kind fresh own lines refl)
-    ∙ set_away lines (slot_of lines fresh.tag) s (Some fresh) (away lines refl) ∙ there
+    ∙ set_away lines (index_of lines fresh.tag) s (Some fresh) (away lines refl) ∙ there
 
 -- a line of the same cache stays, unless the new one is put on its place
 pub mine_stays : (caches : List (List (Option Line))) (own at : ℕ) (kind : BusKind) (fresh : Line) (s : ℕ) (l : Line)
-    → line_in caches own s ≡ Some l → ((lines : List (Option Line)) → slice_get caches own ≡ Some lines → s ≢ slot_of lines fresh.tag) → line_in (turned caches own at kind fresh) own s ≡ Some l
+    → line_in caches own s ≡ Some l → ((lines : List (Option Line)) → slice_get caches own ≡ Some lines → s ≢ index_of lines fresh.tag) → line_in (turned caches own at kind fresh) own s ≡ Some l
 mine_stays caches own at kind fresh s l there away = mine_in caches own at kind fresh s l (slice_get caches own) refl there away

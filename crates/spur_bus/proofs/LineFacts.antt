@@ -3,12 +3,12 @@ use Rattle.std.proofs.Common.{◌≡◌, ◌≢◌, ℕ, zero, suc, ◌<◌, ◌
 use Rattle.std.proofs.lemmas.Bool.{cases_eq, eq-eqb, eqb-true, ne_eqb}
 use Rattle.spur_addr.specs.Address.{block_of}
 use Rattle.spur_cache.specs.declared.line.Line.{Line}
-use Rattle.spur_cache.specs.Lines.{IsCache, found, tagged, line_at, joined, slot_of, set_found, in_state}
+use Rattle.spur_cache.specs.Lines.{IsCache, found, tagged, line_at, joined, index_of, set_found, in_state}
 use Rattle.spur_snoop.specs.declared.BlockState.{BlockState}
 use Rattle.spur_snoop.specs.declared.BlockState.TheVariants.{Invalid, UnOwned, OwnedNonExclusive, OwnedExclusive}
 use Rattle.spur_snoop.specs.declared.BusKind.{BusKind}
 use Rattle.spur_snoop.specs.Protocol.{snooped_of}
-use Rattle.spur_bus.specs.Boards.{told_line, told}
+use Rattle.spur_bus.specs.Boards.{snooped_line, snooped_lines}
 use Rattle.spur_bus.proofs.Turn.{CameFrom, state_after}
 
 pub slice_get-set_same : {X : Type 0} (xs : List X) (i : ℕ) (x y : X) → slice_get xs i ≡ Some x → slice_get (slice_set xs i y) i ≡ Some y
@@ -79,16 +79,16 @@ unchanged lines block kind s l placed stood apart = record {
   came = record { tag = refl; frame = refl; prot = refl; dirty = refl; words = refl; state = sym (not_that block kind l apart); alive = (placed.held s l stood).valid };
 }
 
-pub told_from : (lines : List (Option Line)) (at : ℕ) (kind : BusKind) (s : ℕ) (l : Line) (o : Option Line) → IsCache lines → found lines at ≡ o → line_at (told_line lines at kind o) s ≡ Some l → Origin lines (block_of at) kind s l
+pub told_from : (lines : List (Option Line)) (at : ℕ) (kind : BusKind) (s : ℕ) (l : Line) (o : Option Line) → IsCache lines → found lines at ≡ o → line_at (snooped_line lines at kind o) s ≡ Some l → Origin lines (block_of at) kind s l
 told_from lines at kind s l None placed is h =
     unchanged lines (block_of at) kind s l placed h (λ (same : l.tag ≡ block_of at).
-    let slot : s ≡ slot_of lines (block_of at) = sym (placed.placed s l h) ∙ ap (slot_of lines) same in
-    let there : line_at lines (slot_of lines (block_of at)) ≡ Some l = ap (line_at lines) (sym slot) ∙ h in
+    let slot : s ≡ index_of lines (block_of at) = sym (placed.placed s l h) ∙ ap (index_of lines) same in
+    let there : line_at lines (index_of lines (block_of at)) ≡ Some l = ap (line_at lines) (sym slot) ∙ h in
     let seen : found lines at ≡ Some l = ap (tagged (block_of at)) there ∙ tagged_there (block_of at) l same in
     let clash : None ≡ Some l = sym is ∙ seen in
     cc)
 told_from lines at kind s l (Some x) placed is h =
-    let slot : ℕ = slot_of lines (block_of at) in
+    let slot : ℕ = index_of lines (block_of at) in
     let st : BlockState = snooped_of x.state kind in
     let x_is = tagged_is (block_of at) (line_at lines slot) x is in
     let changed : line_at (slice_set lines slot (in_state st x)) s ≡ Some l =
@@ -112,10 +112,10 @@ told_from lines at kind s l (Some x) placed is h =
     })
     (λ (apart : s ≢ slot).
     let kept : line_at lines s ≡ Some l = sym (ap joined (slice_get-set_other lines slot s (in_state st x) apart)) ∙ changed in
-    unchanged lines (block_of at) kind s l placed kept (λ (same : l.tag ≡ block_of at). apart (sym (placed.placed s l kept) ∙ ap (slot_of lines) same)))
+    unchanged lines (block_of at) kind s l placed kept (λ (same : l.tag ≡ block_of at). apart (sym (placed.placed s l kept) ∙ ap (index_of lines) same)))
     (cases_eq s slot)
 
-pub told_origin : (lines : List (Option Line)) (at : ℕ) (kind : BusKind) (s : ℕ) (l : Line) → IsCache lines → line_at (told lines at kind) s ≡ Some l → Origin lines (block_of at) kind s l
+pub told_origin : (lines : List (Option Line)) (at : ℕ) (kind : BusKind) (s : ℕ) (l : Line) → IsCache lines → line_at (snooped_lines lines at kind) s ≡ Some l → Origin lines (block_of at) kind s l
 told_origin lines at kind s l placed h = told_from lines at kind s l (found lines at) placed refl h
 
 pub joined_is : (o : Option (Option Line)) (line : Line) → joined o ≡ Some line → o ≡ Some (Some line)
@@ -142,10 +142,10 @@ pub set_away : (lines : List (Option Line)) (slot s : ℕ) (y : Option Line) →
 set_away lines slot s y apart = ap joined (slice_get-set_other lines slot s y apart)
 
 -- the other way: a line of another block stays
-pub told_apart : (lines : List (Option Line)) (at : ℕ) (kind : BusKind) (s : ℕ) (l : Line) (o : Option Line) → found lines at ≡ o → line_at lines s ≡ Some l → l.tag ≢ block_of at → line_at (told_line lines at kind o) s ≡ Some l
+pub told_apart : (lines : List (Option Line)) (at : ℕ) (kind : BusKind) (s : ℕ) (l : Line) (o : Option Line) → found lines at ≡ o → line_at lines s ≡ Some l → l.tag ≢ block_of at → line_at (snooped_line lines at kind o) s ≡ Some l
 told_apart lines at kind s l None is there apart = there
 told_apart lines at kind s l (Some x) is there apart =
-    let slot : ℕ = slot_of lines (block_of at) in
+    let slot : ℕ = index_of lines (block_of at) in
     let st : BlockState = snooped_of x.state kind in
     let x_is = tagged_is (block_of at) (line_at lines slot) x is in
     let away : s ≢ slot = λ (e : s ≡ slot).
@@ -161,14 +161,14 @@ in_live OwnedExclusive l alive = refl
 
 -- and one of the block is in the state that the table says
 pub told_block : (lines : List (Option Line)) (at : ℕ) (kind : BusKind) (s : ℕ) (l : Line) → IsCache lines → line_at lines s ≡ Some l → l.tag ≡ block_of at → snooped_of l.state kind ≢ Invalid
-    → line_at (told lines at kind) s ≡ Some (record l { state = snooped_of l.state kind })
+    → line_at (snooped_lines lines at kind) s ≡ Some (record l { state = snooped_of l.state kind })
 told_block lines at kind s l placed there same alive =
-    let slot : ℕ = slot_of lines (block_of at) in
+    let slot : ℕ = index_of lines (block_of at) in
     let st : BlockState = snooped_of l.state kind in
-    let here : s ≡ slot = sym (placed.placed s l there) ∙ ap (slot_of lines) same in
+    let here : s ≡ slot = sym (placed.placed s l there) ∙ ap (index_of lines) same in
     let stands : line_at lines slot ≡ Some l = ap (line_at lines) (sym here) ∙ there in
     let seen : found lines at ≡ Some l = ap (tagged (block_of at)) stands ∙ tagged_there (block_of at) l same in
-    ap (λ (o : Option Line). line_at (told_line lines at kind o) s) seen
+    ap (λ (o : Option Line). line_at (snooped_line lines at kind o) s) seen
     ∙ ap (λ (o : Option Line). line_at (set_found lines slot st o) s) seen
     ∙ ap (line_at (slice_set lines slot (in_state st l))) here
     ∙ set_there lines slot (in_state st l) (line_within lines slot l stands)

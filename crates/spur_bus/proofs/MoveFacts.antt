@@ -5,14 +5,14 @@ use Rattle.std.specs.Option.{option_map}
 use Rattle.std.proofs.Common.{mod-lt}
 use Rattle.spur_addr.specs.Address.{block_of}
 use Rattle.spur_cache.specs.declared.line.Line.{Line}
-use Rattle.spur_cache.specs.Lines.{line_at, slot_of}
+use Rattle.spur_cache.specs.Lines.{line_at, index_of}
 use Rattle.spur_snoop.specs.declared.BlockState.{BlockState}
 use Rattle.spur_snoop.specs.declared.BlockState.TheVariants.{Invalid, UnOwned, OwnedNonExclusive, OwnedExclusive}
 use Rattle.spur_snoop.specs.declared.BusKind.{BusKind}
 use Rattle.spur_snoop.specs.Protocol.{is_owned, snooped_of}
 use Rattle.spur_bus.specs.Boards.{line_of, line_in, turned_lines, turned}
 use Rattle.spur_bus.specs.Logical.{word_or, logical_word}
-use Rattle.spur_bus.specs.Agrees.{Agrees, IsAt, Serves}
+use Rattle.spur_bus.specs.Agrees.{Agrees, IsAt, AgreesWithMemory}
 use Rattle.spur_snoop.specs.declared.BusKind.TheVariants as bus
 use Rattle.spur_bus.proofs.Turn.{IsWritten, MayMove, MayTurn, Returns, Shares, Takes, Turn}
 use Rattle.spur_bus.proofs.LineFacts.{not_that, set_there, some_same, that}
@@ -29,7 +29,7 @@ there_in : (caches : List (List (Option Line))) (own at : ℕ) (kind : BusKind) 
     → (s : ℕ) × (line_in (turned caches own at kind fresh) own s ≡ Some fresh)
 there_in caches own at kind fresh None agree is within = absurd (get_none caches own within is)
 there_in caches own at kind fresh (Some lines) agree is within =
-    let slot : ℕ = slot_of lines fresh.tag in
+    let slot : ℕ = index_of lines fresh.tag in
     let some : 16 ≤ length lines = (agree.each own lines is).count.some_lines in
     let small : slot < length lines = mod-lt fresh.tag (omega arith) in (
       slot,
@@ -113,11 +113,11 @@ fate caches own at kind fresh k i s l agree may none there o same (Returns is st
 
 -- a line of the same cache and another block stays owned
 mine_owned : (caches : List (List (Option Line))) (own at : ℕ) (kind : BusKind) (fresh : Line) (old new : List ℕ) (f p s : ℕ) (l : Line) (o : Option (List (Option Line)))
-    → MayMove caches own at kind fresh old new → slice_get caches own ≡ o → line_of o s ≡ Some l → is_owned l.state ≡ true → l.tag ≢ block_of at → (lines : List (Option Line)) → slice_get caches own ≡ Some lines → s ≢ slot_of lines fresh.tag
+    → MayMove caches own at kind fresh old new → slice_get caches own ≡ o → line_of o s ≡ Some l → is_owned l.state ≡ true → l.tag ≢ block_of at → (lines : List (Option Line)) → slice_get caches own ≡ Some lines → s ≢ index_of lines fresh.tag
 mine_owned caches own at kind fresh old new f p s l None move is there owned away lines at_own e = cc
 mine_owned caches own at kind fresh old new f p s l (Some ls) move is there owned away lines at_own e =
     let same : ls ≡ lines = some_same ls lines (sym is ∙ at_own) in
-    let stands : line_at lines (slot_of lines fresh.tag) ≡ Some l = ap (line_at lines) (sym e) ∙ ap (λ (x : List (Option Line)). line_at x s) (sym same) ∙ there in
+    let stands : line_at lines (index_of lines fresh.tag) ≡ Some l = ap (line_at lines) (sym e) ∙ ap (λ (x : List (Option Line)). line_at x s) (sym same) ∙ there in
     away (move.victim lines l at_own stands owned)
 
 unowned_after : (caches : List (List (Option Line))) (own at : ℕ) (kind : BusKind) (fresh : Line) (old new : List ℕ) (k i s : ℕ) (l : Line) → Agrees caches → MayTurn caches own at kind fresh → MayMove caches own at kind fresh old new
@@ -136,7 +136,7 @@ unowned_after caches own at kind fresh old new k i s l agree may move none there
     (cases_eq l.tag (block_of at))
 
 -- each line after it has the words of the logical memory before it
-line_words : (caches : List (List (Option Line))) (own at : ℕ) (kind : BusKind) (fresh : Line) (old new : List ℕ) (k i s : ℕ) (l : Line) → MayMove caches own at kind fresh old new → Serves caches old → IsAt k l
+line_words : (caches : List (List (Option Line))) (own at : ℕ) (kind : BusKind) (fresh : Line) (old new : List ℕ) (k i s : ℕ) (l : Line) → MayMove caches own at kind fresh old new → AgreesWithMemory caches old → IsAt k l
     → From caches own (block_of at) kind fresh i s l → slice_index l.words (k % 8) ≡ logical_word caches old k
 line_words caches own at kind fresh old new k i s l move serves is (Fresh e f) =
     ap (λ (m : Line). slice_index m.words (k % 8)) f ∙ move.words k (subst (λ (m : Line). IsAt k m) f is)
@@ -160,7 +160,7 @@ free_word caches own at kind fresh old new k agree may move none (Free is before
 free_word caches own at kind fresh old new k agree may move none (Owned i s l there o is) =
     went caches own at kind fresh old new k move (unowned_after caches own at kind fresh old new k i s l agree may move none there o)
 
-moved : (caches : List (List (Option Line))) (own at : ℕ) (kind : BusKind) (fresh : Line) (old new : List ℕ) (k : ℕ) → Agrees caches → MayTurn caches own at kind fresh → Serves caches old → MayMove caches own at kind fresh old new
+moved : (caches : List (List (Option Line))) (own at : ℕ) (kind : BusKind) (fresh : Line) (old new : List ℕ) (k : ℕ) → Agrees caches → MayTurn caches own at kind fresh → AgreesWithMemory caches old → MayMove caches own at kind fresh old new
     → Owner (turned caches own at kind fresh) (k / 1024) (k / 8 % 128) → logical_word (turned caches own at kind fresh) new k ≡ logical_word caches old k
 moved caches own at kind fresh old new k agree may serves move (Free is none) =
     ap (λ (o : Option (List ℕ)). word_or o (slice_index new k) k) is
@@ -170,19 +170,19 @@ moved caches own at kind fresh old new k agree may serves move (Owned i s l ther
     ∙ line_words caches own at kind fresh old new k i s l move serves (is_at k l o) (from caches own at kind fresh i s l agree may.tag there)
 
 -- the logical memory stays
-pub logical-turned : (caches : List (List (Option Line))) (own at : ℕ) (kind : BusKind) (fresh : Line) (old new : List ℕ) (k : ℕ) → Agrees caches → MayTurn caches own at kind fresh → Serves caches old → MayMove caches own at kind fresh old new
+pub logical-turned : (caches : List (List (Option Line))) (own at : ℕ) (kind : BusKind) (fresh : Line) (old new : List ℕ) (k : ℕ) → Agrees caches → MayTurn caches own at kind fresh → AgreesWithMemory caches old → MayMove caches own at kind fresh old new
     → logical_word (turned caches own at kind fresh) new k ≡ logical_word caches old k
 logical-turned caches own at kind fresh old new k agree may serves move = moved caches own at kind fresh old new k agree may serves move (owner (turned caches own at kind fresh) (k / 1024) (k / 8 % 128))
 
-line_frame : (caches : List (List (Option Line))) (own at : ℕ) (kind : BusKind) (fresh : Line) (old new : List ℕ) (i s : ℕ) (l : Line) → Serves caches old → MayMove caches own at kind fresh old new
+line_frame : (caches : List (List (Option Line))) (own at : ℕ) (kind : BusKind) (fresh : Line) (old new : List ℕ) (i s : ℕ) (l : Line) → AgreesWithMemory caches old → MayMove caches own at kind fresh old new
     → From caches own (block_of at) kind fresh i s l → l.frame * 1024 + 1024 ≤ length old
 line_frame caches own at kind fresh old new i s l serves move (Fresh e f) = subst (λ (m : Line). m.frame * 1024 + 1024 ≤ length old) (sym f) move.within
 line_frame caches own at kind fresh old new i s l serves move (Mine e away there) = serves.within i s l there
 line_frame caches own at kind fresh old new i s l serves move (Other before apart there came) = subst (λ (n : ℕ). n * 1024 + 1024 ≤ length old) (sym came.frame) (serves.within i s before there)
 
 -- and each line has its words
-pub serves-turned : (caches : List (List (Option Line))) (own at : ℕ) (kind : BusKind) (fresh : Line) (old new : List ℕ) → Agrees caches → MayTurn caches own at kind fresh → Serves caches old → MayMove caches own at kind fresh old new
-    → Serves (turned caches own at kind fresh) new
+pub serves-turned : (caches : List (List (Option Line))) (own at : ℕ) (kind : BusKind) (fresh : Line) (old new : List ℕ) → Agrees caches → MayTurn caches own at kind fresh → AgreesWithMemory caches old → MayMove caches own at kind fresh old new
+    → AgreesWithMemory (turned caches own at kind fresh) new
 serves-turned caches own at kind fresh old new agree may serves move = record {
   within = λ (i s : ℕ) (l : Line) (there : line_in (turned caches own at kind fresh) i s ≡ Some l).
       subst (λ (n : ℕ). l.frame * 1024 + 1024 ≤ n) (sym move.size) (line_frame caches own at kind fresh old new i s l serves move (from caches own at kind fresh i s l agree may.tag there));

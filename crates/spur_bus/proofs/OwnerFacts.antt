@@ -2,7 +2,7 @@
 use Rattle.std.proofs.Common.{◌≡◌, ℕ, zero, suc, ◌%◌, ◌/◌, ◌==◌, ◌&&◌, Bool, true, false, if◌then◌else◌, List, [], ◌∷◌, map, slice_get, slice_index, Option, Some, None, refl, sym, ap, ◌∙◌}
 use Rattle.std.proofs.lemmas.Bool.{eq-eqb, eqb-true}
 use Rattle.spur_cache.specs.declared.line.Line.{Line}
-use Rattle.spur_cache.specs.Lines.{line_at, joined, slot_of}
+use Rattle.spur_cache.specs.Lines.{line_at, joined, index_of}
 use Rattle.spur_snoop.specs.Protocol.{is_owned}
 use Rattle.spur_bus.specs.Boards.{line_of, line_in, first_some}
 use Rattle.spur_bus.specs.Logical.{owned_words, owner_in, owner_of, word_or, logical_word}
@@ -108,7 +108,7 @@ same_in : (caches : List (List (Option Line))) (i s t : ℕ) (l m : Line) (o : O
 same_in caches i s t l m None agree at a b same = cc
 same_in caches i s t l m (Some lines) agree at a b same =
     let p = agree.each i lines at in
-    let places : s ≡ t = sym (p.placed s l a) ∙ ap (slot_of lines) same ∙ p.placed t m b in
+    let places : s ≡ t = sym (p.placed s l a) ∙ ap (index_of lines) same ∙ p.placed t m b in
     some_same l m (sym a ∙ ap (line_at lines) places ∙ b)
 
 pub same_line : (caches : List (List (Option Line))) (i j s t : ℕ) (l m : Line) → Agrees caches → line_in caches i s ≡ Some l → line_in caches j t ≡ Some m → i ≡ j → l.tag ≡ m.tag → l ≡ m

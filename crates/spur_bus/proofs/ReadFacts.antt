@@ -7,7 +7,7 @@ use Rattle.spur_addr.specs.Address.{block_of, block_start_of}
 use Rattle.spur_addr.specs.declared.page_entry.Protection.{Protection}
 use Rattle.spur_addr.specs.declared.page_entry.Protection.TheVariants.{Nothing}
 use Rattle.spur_cache.specs.declared.line.Line.{Line}
-use Rattle.spur_cache.specs.Lines.{IsCache, found, tagged, line_at, slot_of}
+use Rattle.spur_cache.specs.Lines.{IsCache, found, tagged, line_at, index_of}
 use Rattle.spur_snoop.specs.declared.BlockState.{BlockState}
 use Rattle.spur_snoop.specs.declared.BlockState.TheVariants.{Invalid, UnOwned, OwnedNonExclusive, OwnedExclusive}
 use Rattle.spur_snoop.specs.declared.BusKind.{BusKind}
@@ -21,7 +21,7 @@ use Rattle.spur_flat.specs.TagLines.{fresh_tag, kind_of, filled_state}
 use Rattle.spur_bus.specs.declared.place.Place.{Place}
 use Rattle.spur_bus.specs.Boards.{line_of, line_in, line_of_block, turned_lines, turned, first_some, supplied_by, supplier, words_or}
 use Rattle.spur_bus.specs.Logical.{word_or, logical_word, logical_words, logical_block}
-use Rattle.spur_bus.specs.Agrees.{Agrees, IsAt, Serves}
+use Rattle.spur_bus.specs.Agrees.{Agrees, IsAt, AgreesWithMemory}
 use Rattle.spur_bus.specs.Calls.{MayRead, read_caches, read_line, tag_of, tags_of, Gives}
 use Rattle.spur_snoop.specs.declared.BusKind.TheVariants as bus
 use Rattle.spur_flat.specs.TagLines as T
@@ -40,7 +40,7 @@ use Rattle.spur_bus.proofs.BackFacts.{at_place, place_at}
 -- a cache finds the line of a block that it has
 pub found_at : (lines : List (Option Line)) (at s : ℕ) (l : Line) → IsCache lines → line_at lines s ≡ Some l → l.tag ≡ block_of at → found lines at ≡ Some l
 found_at lines at s l cache there tag =
-    let slot : s ≡ slot_of lines (block_of at) = sym (cache.placed s l there) ∙ ap (slot_of lines) tag in
+    let slot : s ≡ index_of lines (block_of at) = sym (cache.placed s l there) ∙ ap (index_of lines) tag in
     ap (tagged (block_of at)) (ap (line_at lines) (sym slot) ∙ there) ∙ tagged_there (block_of at) l tag
 
 pub found_in : (caches : List (List (Option Line))) (b at s : ℕ) (l : Line) → Agrees caches → b < length caches → line_in caches b s ≡ Some l → l.tag ≡ block_of at → line_of_block caches b at ≡ Some l
@@ -103,8 +103,8 @@ supplies_cons : (lines : List (Option Line)) (rest : List (List (Option Line))) 
 supplies_cons lines rest at kind w None reads is more h = let r = more h in record { i = suc r.i; s = r.s; line = r.line; there = r.there; tag = r.tag; owned = r.owned; words = r.words }
 supplies_cons lines rest at kind w (Some u) reads is more h =
     let f = offers lines at kind w (found lines at) reads refl (is ∙ h) in
-    let both = tagged_is (block_of at) (line_at lines (slot_of lines (block_of at))) f.line f.there in
-    record { i = zero; s = slot_of lines (block_of at); line = f.line; there = both.0; tag = both.1; owned = f.owned; words = f.words }
+    let both = tagged_is (block_of at) (line_at lines (index_of lines (block_of at))) f.line f.there in
+    record { i = zero; s = index_of lines (block_of at); line = f.line; there = both.0; tag = both.1; owned = f.owned; words = f.words }
 
 pub supplies_words : (caches : List (List (Option Line))) (at : ℕ) (kind : BusKind) (w : List ℕ) → IsRead kind → supplier caches at kind ≡ Some w → Supplies caches at w
 supplies_words [] at kind w reads h = cc
@@ -234,7 +234,7 @@ pub record ReadAll (caches news : List (List (Option Line))) (memory : List ℕ)
 not_owned : (st : BlockState) → is_owned st ≡ false → is_owned st ≡ true → ⊥
 not_owned st h owned = let clash : false ≡ true = sym h ∙ owned in cc
 
-read_in : (caches : List (List (Option Line))) (memory : List ℕ) (b at : ℕ) (kind : BusKind) (state : BlockState) (place : Place) → Agrees caches → Serves caches memory → b < length caches → block_of at < 2 ^ 33
+read_in : (caches : List (List (Option Line))) (memory : List ℕ) (b at : ℕ) (kind : BusKind) (state : BlockState) (place : Place) → Agrees caches → AgreesWithMemory caches memory → b < length caches → block_of at < 2 ^ 33
     → MayRead caches memory b at place.frame → state ≢ Invalid → Turn caches b (block_of at) kind (read_line at state place (logical_block caches memory place.frame at)) → kind ≢ bus.WriteBack
     → ReadAll caches (turned caches b at kind (read_line at state place (logical_block caches memory place.frame at))) memory b at (read_line at state place (logical_block caches memory place.frame at))
 read_in caches memory b at kind state place agree serves within small may alive turn no_back =
@@ -253,9 +253,9 @@ read_in caches memory b at kind state place agree serves within small may alive 
       within = may.room;
       size = refl;
       words = λ (k : ℕ) (i : IsAt k fresh). logical_block_word caches memory place.frame at k may.room (record { frame_is = i.frame; position = i.position });
-      victim = λ (lines : List (Option Line)) (l : Line) (at_b : slice_get caches b ≡ Some lines) (there : line_at lines (slot_of lines fresh.tag) ≡ Some l) (owned : is_owned l.state ≡ true).
+      victim = λ (lines : List (Option Line)) (l : Line) (at_b : slice_get caches b ≡ Some lines) (there : line_at lines (index_of lines fresh.tag) ≡ Some l) (owned : is_owned l.state ≡ true).
           let same : lines ≡ get_or caches b [] = some_same lines (get_or caches b []) (sym at_b ∙ board) in
-          let stands : line_at (get_or caches b []) (slot_of (get_or caches b []) (block_of at)) ≡ Some l = ap (λ (ls : List (Option Line)). line_at ls (slot_of ls (block_of at))) (sym same) ∙ there in
+          let stands : line_at (get_or caches b []) (index_of (get_or caches b []) (block_of at)) ≡ Some l = ap (λ (ls : List (Option Line)). line_at ls (index_of ls (block_of at))) (sym same) ∙ there in
           absurd (not_owned l.state (may.victim l stands) owned);
       memory = λ (k : ℕ). inl refl;
       returned = λ (k : ℕ) (back : kind ≡ bus.WriteBack) (i : IsAt k fresh). absurd (no_back back);
@@ -277,7 +277,7 @@ shared_not_back h = cc
 owned_not_back : bus.ReadOwned ≢ bus.WriteBack
 owned_not_back h = cc
 
-pub shared_all : (caches news : List (List (Option Line))) (memory : List ℕ) (b at : ℕ) (place : Place) → Agrees caches → Serves caches memory → b < length caches → block_of at < 2 ^ 33 → MayRead caches memory b at place.frame
+pub shared_all : (caches news : List (List (Option Line))) (memory : List ℕ) (b at : ℕ) (place : Place) → Agrees caches → AgreesWithMemory caches memory → b < length caches → block_of at < 2 ^ 33 → MayRead caches memory b at place.frame
     → news ≡ turned caches b at bus.ReadShared (read_line at UnOwned place (logical_block caches memory place.frame at))
     → ReadAll caches news memory b at (read_line at UnOwned place (logical_block caches memory place.frame at))
 shared_all caches news memory b at place agree serves within small may is =
@@ -286,7 +286,7 @@ shared_all caches news memory b at place agree serves within small may is =
     (read_in caches memory b at bus.ReadShared UnOwned place agree serves within small may unowned_alive
     (Shares refl refl (λ (s : ℕ) (l : Line) (there : line_in caches b s ≡ Some l). lacks_all caches b at s l agree within may.lacks there)) shared_not_back)
 
-pub owned_all : (caches news : List (List (Option Line))) (memory : List ℕ) (b at : ℕ) (place : Place) → Agrees caches → Serves caches memory → b < length caches → block_of at < 2 ^ 33 → MayRead caches memory b at place.frame
+pub owned_all : (caches news : List (List (Option Line))) (memory : List ℕ) (b at : ℕ) (place : Place) → Agrees caches → AgreesWithMemory caches memory → b < length caches → block_of at < 2 ^ 33 → MayRead caches memory b at place.frame
     → news ≡ turned caches b at bus.ReadOwned (read_line at OwnedExclusive place (logical_block caches memory place.frame at))
     → ReadAll caches news memory b at (read_line at OwnedExclusive place (logical_block caches memory place.frame at))
 owned_all caches news memory b at place agree serves within small may is =
@@ -333,7 +333,7 @@ read_tags caches news b at start kind fresh tag is_tag tag_is start_is is =
 
 -- a read, over boards
 
-pub read_all : (n : Need) (caches news : List (List (Option Line))) (memory : List ℕ) (b at : ℕ) (place : Place) → Agrees caches → Serves caches memory → b < length caches → block_of at < 2 ^ 33 → MayRead caches memory b at place.frame
+pub read_all : (n : Need) (caches news : List (List (Option Line))) (memory : List ℕ) (b at : ℕ) (place : Place) → Agrees caches → AgreesWithMemory caches memory → b < length caches → block_of at < 2 ^ 33 → MayRead caches memory b at place.frame
     → news ≡ turned caches b at (kind_of n) (read_line at (filled_state n) place (logical_block caches memory place.frame at))
     → ReadAll caches news memory b at (read_line at (filled_state n) place (logical_block caches memory place.frame at))
 read_all need.Read caches news memory b at place = shared_all caches news memory b at place
@@ -355,7 +355,7 @@ pub record ReadDone (n : Need) (caches now : List (List (Option Line))) (memory 
       → tags_of now ≡ T.bus_on (tags_of caches) b (block_of start) (kind_of n) (Some (fresh_tag F l n start))
 
 pub read_done : (n : Need) (caches now : List (List (Option Line))) (memory : List ℕ) (b at : ℕ) (place : Place) (words : List ℕ) (line : Line)
-    → b < length caches → Agrees caches → Serves caches memory → MayRead caches memory b at place.frame
+    → b < length caches → Agrees caches → AgreesWithMemory caches memory → MayRead caches memory b at place.frame
     → words ≡ words_or (supplier caches at (kind_of n)) (block_at memory (block_place place.frame at)) → line ≡ read_line at (filled_state n) place words → line.tag < 2 ^ 33
     → now ≡ turned caches b at (kind_of n) line → ReadDone n caches now memory b at place
 read_done n caches now memory b at place words line within agree serves may words_is line_is small is =

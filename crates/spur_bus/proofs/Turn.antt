@@ -2,7 +2,7 @@
 use Rattle.std.proofs.Common.{◌≡◌, ◌≢◌, ◌⊎◌, ℕ, ◌+◌, ◌*◌, ◌%◌, ◌<◌, ◌≤◌, ◌==◌, if◌then◌else◌, true, List, length, slice_get, slice_index, Option, Some}
 use Rattle.spur_addr.specs.Address.{block_of}
 use Rattle.spur_cache.specs.declared.line.Line.{Line}
-use Rattle.spur_cache.specs.Lines.{IsHeld, line_at, slot_of}
+use Rattle.spur_cache.specs.Lines.{IsHeld, line_at, index_of}
 use Rattle.spur_snoop.specs.declared.BlockState.{BlockState}
 use Rattle.spur_snoop.specs.declared.BlockState.TheVariants.{Invalid, UnOwned}
 use Rattle.spur_snoop.specs.declared.BusKind.{BusKind}
@@ -39,7 +39,7 @@ pub record MayMove (caches : List (List (Option Line))) (own at : ℕ) (kind : B
   pub within : fresh.frame * 1024 + 1024 ≤ length old
   pub size : length new ≡ length old
   pub words : (k : ℕ) → IsAt k fresh → slice_index fresh.words (k % 8) ≡ logical_word caches old k
-  pub victim : (lines : List (Option Line)) (line : Line) → slice_get caches own ≡ Some lines → line_at lines (slot_of lines fresh.tag) ≡ Some line → is_owned line.state ≡ true → line.tag ≡ block_of at
+  pub victim : (lines : List (Option Line)) (line : Line) → slice_get caches own ≡ Some lines → line_at lines (index_of lines fresh.tag) ≡ Some line → is_owned line.state ≡ true → line.tag ≡ block_of at
   pub memory : (k : ℕ) → (slice_index new k ≡ slice_index old k) ⊎ IsWritten fresh new k
   pub returned : (k : ℕ) → kind ≡ bus.WriteBack → IsAt k fresh → slice_index new k ≡ slice_index fresh.words (k % 8)
 

@@ -34,7 +34,7 @@ pub record IsAt (k : ℕ) (line : Line) : Type 0 where
 -- Caches agree with a memory:
 -- 7. the frame of each valid line is one of the memory's;
 -- 8. the words of each valid line are those of the logical memory.
-pub record Serves (caches : List (List (Option Line))) (memory : List ℕ) : Type 0 where
+pub record AgreesWithMemory (caches : List (List (Option Line))) (memory : List ℕ) : Type 0 where
   pub within : (i s : ℕ) (line : Line) → line_in caches i s ≡ Some line → line.frame * 1024 + 1024 ≤ length memory
   pub words : (i s k : ℕ) (line : Line) → line_in caches i s ≡ Some line → IsAt k line → slice_index line.words (k % 8) ≡ logical_word caches memory k
 
@@ -43,9 +43,9 @@ abbrev pub EmptyAgree : Type 0
 EmptyAgree = (n k : ℕ) → 1 ≤ n → n ≤ 12 → IsLineCount k → Agrees (replicate n (replicate k None))
 
 abbrev pub EmptyServe : Type 0
-EmptyServe = (n k : ℕ) (memory : List ℕ) → Serves (replicate n (replicate k None)) memory
+EmptyServe = (n k : ℕ) (memory : List ℕ) → AgreesWithMemory (replicate n (replicate k None)) memory
 
 -- what the memory has of a block that a cache owns is of no account: it may be anything
 abbrev pub OwnedIsFree : Type 0
-OwnedIsFree = (caches : List (List (Option Line))) (memory words : List ℕ) (i s : ℕ) (line : Line) → Agrees caches → Serves caches memory
-    → line_in caches i s ≡ Some line → is_owned line.state ≡ true → Serves caches (with_block memory (block_start line.frame line.tag) words)
+OwnedIsFree = (caches : List (List (Option Line))) (memory words : List ℕ) (i s : ℕ) (line : Line) → Agrees caches → AgreesWithMemory caches memory
+    → line_in caches i s ≡ Some line → is_owned line.state ≡ true → AgreesWithMemory caches (with_block memory (block_start line.frame line.tag) words)

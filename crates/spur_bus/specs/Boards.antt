@@ -26,23 +26,23 @@ abbrev pub line_of_block : List (List (Option Line)) → ℕ → ℕ → Option 
 line_of_block caches b g = found (get_or caches b []) g
 
 -- lines that saw another board's transaction on the block of g, of which they have this line
-abbrev pub told_line : List (Option Line) → ℕ → BusKind → Option Line → List (Option Line)
-told_line lines g kind None = lines
-told_line lines g kind (Some line) = with_state lines g (snooped_of line.state kind)
+abbrev pub snooped_line : List (Option Line) → ℕ → BusKind → Option Line → List (Option Line)
+snooped_line lines g kind None = lines
+snooped_line lines g kind (Some line) = with_state lines g (snooped_of line.state kind)
 
 -- lines that saw another board's transaction on the block of g: the block's line, where they have one, is put in the
 -- state that the protocol's table says, and is dropped where that is Invalid
-abbrev pub told : List (Option Line) → ℕ → BusKind → List (Option Line)
-told lines g kind = told_line lines g kind (found lines g)
+abbrev pub snooped_lines : List (Option Line) → ℕ → BusKind → List (Option Line)
+snooped_lines lines g kind = snooped_line lines g kind (found lines g)
 
 -- the lines of cache k where board `own` makes the transaction: each other one sees it
-abbrev pub told_unless : ℕ → ℕ → BusKind → ℕ → List (Option Line) → List (Option Line)
-told_unless own g kind k lines = if k == own then lines else told lines g kind
+abbrev pub snooped_unless : ℕ → ℕ → BusKind → ℕ → List (Option Line) → List (Option Line)
+snooped_unless own g kind k lines = if k == own then lines else snooped_lines lines g kind
 
 -- the lines of cache k after a transaction of board `own` on the block of g: the own cache has the line `fresh` on its
 -- place, and each other one saw the transaction
 abbrev pub turned_lines : ℕ → ℕ → BusKind → Line → ℕ → List (Option Line) → List (Option Line)
-turned_lines own g kind fresh k lines = if k == own then with_line lines fresh else told lines g kind
+turned_lines own g kind fresh k lines = if k == own then with_line lines fresh else snooped_lines lines g kind
 
 -- all caches after it
 abbrev pub turned : List (List (Option Line)) → ℕ → ℕ → BusKind → Line → List (List (Option Line))

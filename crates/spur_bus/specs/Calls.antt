@@ -2,7 +2,7 @@
 use Rattle.std.specs.Prelude.{ℕ, ◌≡◌, ◌+◌, ◌*◌, ◌%◌, ◌≤◌, Bool, true, false, if◌then◌else◌, map, get_or, List, [], length, Option, Some, None}
 use Rattle.spur_addr.specs.Address.{block_of}
 use Rattle.spur_cache.specs.declared.line.Line.{Line}
-use Rattle.spur_cache.specs.Lines.{standing}
+use Rattle.spur_cache.specs.Lines.{occupant}
 use Rattle.spur_snoop.specs.declared.BlockState.{BlockState}
 use Rattle.spur_snoop.specs.declared.BlockState.TheVariants.{UnOwned, OwnedExclusive}
 use Rattle.spur_snoop.specs.declared.BusKind.TheVariants as bus
@@ -17,7 +17,7 @@ use Rattle.spur_flat.specs.TagLines.{filled_state, fresh_tag, kind_of, tags_on}
 use Rattle.spur_bus.specs.declared.place.Place.{Place}
 use Rattle.spur_bus.specs.Boards.{line_in, line_of_block, restated, turned}
 use Rattle.spur_bus.specs.Logical.{logical_block, logical_words}
-use Rattle.spur_bus.specs.Agrees.{Serves}
+use Rattle.spur_bus.specs.Agrees.{AgreesWithMemory}
 
 -- cache b has the block of g, in a state that passes a test
 pub record HasLine (caches : List (List (Option Line))) (b g : ℕ) (test : BlockState → Bool) : Type 0 where
@@ -30,7 +30,7 @@ pub record HasLine (caches : List (List (Option Line))) (b g : ℕ) (test : Bloc
 pub record MayRead (caches : List (List (Option Line))) (memory : List ℕ) (b g frame : ℕ) : Type 0 where
   pub room : frame * 1024 + 1024 ≤ length memory
   pub lacks : line_of_block caches b g ≡ None
-  pub victim : (line : Line) → standing (get_or caches b []) g ≡ Some line → is_owned line.state ≡ false
+  pub victim : (line : Line) → occupant (get_or caches b []) g ≡ Some line → is_owned line.state ≡ false
   pub one_frame : (i s : ℕ) (line : Line) → line_in caches i s ≡ Some line → line.tag ≡ block_of g → line.frame ≡ frame
   pub one_place : (i s : ℕ) (line : Line) → line_in caches i s ≡ Some line → line.frame ≡ frame → line.tag % 128 ≡ block_of g % 128 → line.tag ≡ block_of g
 
@@ -96,12 +96,12 @@ MovesTagsAs before after entry layer need at place = (F : Flat) → Gives F laye
 
 -- caches that agreed with a memory agree with the new one, and the logical memory is kept at every place
 pub record KeepsWords (before after : List (List (Option Line))) (old new : List ℕ) : Type 0 where
-  pub serves : Serves after new
+  pub serves : AgreesWithMemory after new
   pub logical : logical_words after new ≡ logical_words before old
 
 -- that, for every memory with which the caches agree
 abbrev pub KeepsAllWords : List (List (Option Line)) → List (List (Option Line)) → Type 0
-KeepsAllWords before after = (memory : List ℕ) → Serves before memory → KeepsWords before after memory memory
+KeepsAllWords before after = (memory : List ℕ) → AgreesWithMemory before memory → KeepsWords before after memory memory
 
 -- the number of lines of a cache, of which all have the same
 abbrev pub line_count : List (List (Option Line)) → ℕ

@@ -83,7 +83,7 @@ abbrev pub ReadIsTagged : Type 0
 ReadIsTagged = (F : Flat) (caches : List (List (Option Line))) (memory : List ℕ) (b g frame : ℕ) (layer : Layer) (need : Need)
     → b < length caches → MayRead caches memory b g frame
     → is_layer (layer_of (block_start_of g)) layer ≡ true
-    → table_refusal F layer need (block_start_of g) (tag.state_of (tag.tag_at (tags_of caches) b (entry_block (block_start_of g)))) ≡ None
+    → table_refusal F layer need (block_start_of g) (tag.block_state (tag.tag_at (tags_of caches) b (entry_block (block_start_of g)))) ≡ None
     → tags_refusal F (tags_of caches) (Fill b layer need (block_start_of g)) ≡ None
 
 -- and that of a flush where moreover the block's page is leaving

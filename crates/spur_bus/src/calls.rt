@@ -11,7 +11,7 @@ ghost use Rattle.spur_flat.specs.declared.entry.Entry.TheVariants as entry;
 ghost use Rattle.spur_flat.specs.TagRules.{may_claim};
 ghost use Rattle.spur_bus.specs.Boards.{dropped, line_of_block, restated, supplier, turned, words_or};
 ghost use Rattle.spur_bus.specs.Logical.{logical_block, logical_of};
-ghost use Rattle.spur_bus.specs.Agrees.{Agrees, Serves};
+ghost use Rattle.spur_bus.specs.Agrees.{Agrees, AgreesWithMemory};
 ghost use Rattle.spur_bus.specs.Calls.{HasLine, KeepsAllWords, MayRead, MovesTags, MovesTagsAs, claimed, flushed};
 ghost use Rattle.spur_bus.specs.Calls.{line_count, read_caches, read_line, shared_again, words_of, written_back};
 
@@ -39,13 +39,13 @@ pub fn read_shared<T: HasCache>(
 ) -> Entry
     requires own { b < length boards.old }
     requires agree { Agrees (caches T.lens boards.old) }
-    requires serves { Serves (caches T.lens boards.old) phys.now }
+    requires serves { AgreesWithMemory (caches T.lens boards.old) phys.now }
     requires may { MayRead (caches T.lens boards.old) phys.now b at place.frame }
     ensures entry { result ≡ entry.Fill b layer need.Read (block_start_of at) }
     ensures change { caches T.lens boards.new ≡ read_caches (caches T.lens boards.old) phys.now b need.Read at place }
     ensures lens { OnlyLines T.lens boards.old boards.new }
     ensures agree { Agrees (caches T.lens boards.new) }
-    ensures serves { Serves (caches T.lens boards.new) phys.now }
+    ensures serves { AgreesWithMemory (caches T.lens boards.new) phys.now }
     ensures logical { logical_of T.lens boards.new phys.now ≡ logical_of T.lens boards.old phys.now }
     ensures words {
         words_of (line_of_block (caches T.lens boards.new) b at)
@@ -84,13 +84,13 @@ pub fn read_owned<T: HasCache>(
 ) -> Entry
     requires own { b < length boards.old }
     requires agree { Agrees (caches T.lens boards.old) }
-    requires serves { Serves (caches T.lens boards.old) phys.now }
+    requires serves { AgreesWithMemory (caches T.lens boards.old) phys.now }
     requires may { MayRead (caches T.lens boards.old) phys.now b at place.frame }
     ensures entry { result ≡ entry.Fill b layer need.Write (block_start_of at) }
     ensures change { caches T.lens boards.new ≡ read_caches (caches T.lens boards.old) phys.now b need.Write at place }
     ensures lens { OnlyLines T.lens boards.old boards.new }
     ensures agree { Agrees (caches T.lens boards.new) }
-    ensures serves { Serves (caches T.lens boards.new) phys.now }
+    ensures serves { AgreesWithMemory (caches T.lens boards.new) phys.now }
     ensures logical { logical_of T.lens boards.new phys.now ≡ logical_of T.lens boards.old phys.now }
     ensures words {
         words_of (line_of_block (caches T.lens boards.new) b at)
@@ -145,7 +145,7 @@ pub fn claim<T: HasCache>(boards: &mut [T], b: u32, at: GlobalAddr) -> Entry
 pub fn write_back<T: HasCache>(boards: &mut [T], phys: &mut Phys, b: u32, at: GlobalAddr) -> Entry
     requires own { b < length boards.old }
     requires agree { Agrees (caches T.lens boards.old) }
-    requires serves { Serves (caches T.lens boards.old) phys.old }
+    requires serves { AgreesWithMemory (caches T.lens boards.old) phys.old }
     requires there { HasLine (caches T.lens boards.old) b at is_owned }
     ensures entry { result ≡ entry.WriteBack b (block_start_of at) }
     ensures memory { phys.new ≡ written_back phys.old at (line_of_block (caches T.lens boards.old) b at) }
@@ -153,7 +153,7 @@ pub fn write_back<T: HasCache>(boards: &mut [T], phys: &mut Phys, b: u32, at: Gl
     ensures change { caches T.lens boards.new ≡ shared_again (caches T.lens boards.old) b at }
     ensures lens { OnlyLines T.lens boards.old boards.new }
     ensures agree { Agrees (caches T.lens boards.new) }
-    ensures serves { Serves (caches T.lens boards.new) phys.new }
+    ensures serves { AgreesWithMemory (caches T.lens boards.new) phys.new }
     ensures logical { logical_of T.lens boards.new phys.new ≡ logical_of T.lens boards.old phys.old }
     ensures lines { line_count (caches T.lens boards.new) ≡ line_count (caches T.lens boards.old) }
     ensures tags { MovesTags (caches T.lens boards.old) (caches T.lens boards.new) result }
@@ -184,7 +184,7 @@ pub fn block_flush<T: HasCache>(
     requires own { b < length boards.old }
     requires holder { holder < length boards.old }
     requires agree { Agrees (caches T.lens boards.old) }
-    requires serves { Serves (caches T.lens boards.old) phys.old }
+    requires serves { AgreesWithMemory (caches T.lens boards.old) phys.old }
     requires there { HasLine (caches T.lens boards.old) holder at is_alive }
     ensures entry { result ≡ entry.BlockFlush b holder (block_start_of at) }
     ensures memory { phys.new ≡ flushed phys.old at (line_of_block (caches T.lens boards.old) holder at) }
@@ -192,7 +192,7 @@ pub fn block_flush<T: HasCache>(
     ensures change { caches T.lens boards.new ≡ dropped (caches T.lens boards.old) holder at }
     ensures lens { OnlyLines T.lens boards.old boards.new }
     ensures agree { Agrees (caches T.lens boards.new) }
-    ensures serves { Serves (caches T.lens boards.new) phys.new }
+    ensures serves { AgreesWithMemory (caches T.lens boards.new) phys.new }
     ensures logical { logical_of T.lens boards.new phys.new ≡ logical_of T.lens boards.old phys.old }
     ensures lines { line_count (caches T.lens boards.new) ≡ line_count (caches T.lens boards.old) }
     ensures tags { MovesTags (caches T.lens boards.old) (caches T.lens boards.new) result }
@@ -269,7 +269,7 @@ fn restate<T: HasCache>(
 /// Writes a board's line of a block to memory.
 fn save<T: HasCache>(boards: &[T], phys: &mut Phys, b: usize, at: GlobalAddr)
     requires own { b < length boards.now }
-    requires serves { Serves (caches T.lens boards.now) phys.old }
+    requires serves { AgreesWithMemory (caches T.lens boards.now) phys.old }
     ensures { phys.new ≡ written_back phys.old at (line_of_block (caches T.lens boards.now) b at) }
 {
     if let Some(line) = boards[b].cache().find(at) {
@@ -280,7 +280,7 @@ fn save<T: HasCache>(boards: &[T], phys: &mut Phys, b: usize, at: GlobalAddr)
 /// Writes a board's line of a block to memory, where it is owned.
 fn save_owned<T: HasCache>(boards: &[T], phys: &mut Phys, b: usize, at: GlobalAddr)
     requires own { b < length boards.now }
-    requires serves { Serves (caches T.lens boards.now) phys.old }
+    requires serves { AgreesWithMemory (caches T.lens boards.now) phys.old }
     ensures { phys.new ≡ flushed phys.old at (line_of_block (caches T.lens boards.now) b at) }
 {
     if let Some(line) = boards[b].cache().find(at) {

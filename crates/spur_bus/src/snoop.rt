@@ -2,7 +2,7 @@
 
 ghost use Rattle.std.specs.Prelude.{◌≡◌};
 ghost use Rattle.spur_cache.specs.Lens.{OnlyLines, caches};
-ghost use Rattle.spur_bus.specs.Boards.{changed_board, supplier, told, told_unless, words_or};
+ghost use Rattle.spur_bus.specs.Boards.{changed_board, supplier, snooped_lines, snooped_unless, words_or};
 ghost use Rattle.spur_flat.specs.TagLines.{each_from};
 
 use spur_addr::GlobalAddr;
@@ -12,7 +12,7 @@ use spur_snoop::{BusKind, snooped};
 /// Lets all boards but `own` see its transaction on the block of `at`. Each has one line that may
 /// change.
 pub(crate) fn tell_others<T: HasCache>(boards: &mut [T], own: usize, at: GlobalAddr, kind: BusKind)
-    ensures change { caches T.lens boards.new ≡ each_from (told_unless own at kind) 0 (caches T.lens boards.old) }
+    ensures change { caches T.lens boards.new ≡ each_from (snooped_unless own at kind) 0 (caches T.lens boards.old) }
     ensures lens { OnlyLines T.lens boards.old boards.new }
 {
     for (k, board) in boards.iter_mut().enumerate() {
@@ -22,7 +22,7 @@ pub(crate) fn tell_others<T: HasCache>(boards: &mut [T], own: usize, at: GlobalA
 
 /// Lets board `k` see the transaction, unless it is its own.
 fn tell_board<T: HasCache>(board: &mut T, k: usize, own: usize, at: GlobalAddr, kind: BusKind)
-    ensures { board.new ≡ changed_board T.lens (told_unless own at kind) k board.old }
+    ensures { board.new ≡ changed_board T.lens (snooped_unless own at kind) k board.old }
 {
     if k != own {
         tell(board, at, kind);
@@ -31,7 +31,7 @@ fn tell_board<T: HasCache>(board: &mut T, k: usize, own: usize, at: GlobalAddr, 
 
 /// Lets a board see another's transaction: its own line of the block does as the protocol's table says.
 fn tell<T: HasCache>(board: &mut T, at: GlobalAddr, kind: BusKind)
-    ensures { board.new ≡ T.lens.with_lines board.old (told (T.lens.lines_of board.old) at kind) }
+    ensures { board.new ≡ T.lens.with_lines board.old (snooped_lines (T.lens.lines_of board.old) at kind) }
 {
     if let Some(line) = board.cache().find(at) {
         let (state, _) = snooped(line.state, kind);

@@ -2,11 +2,11 @@
 
 ghost use Rattle.std.specs.Prelude.{◌≡◌, ◌+◌, ◌*◌, ◌<◌, ◌≤◌, IfOk, None, get_or, length, replicate, true};
 ghost use Rattle.spur_cache.specs.Lens.{caches};
-ghost use Rattle.spur_cache.specs.Lines.{standing};
-ghost use Rattle.spur_flat.specs.TagLines.{state_of};
+ghost use Rattle.spur_cache.specs.Lines.{occupant};
+ghost use Rattle.spur_flat.specs.TagLines.{block_state};
 ghost use Rattle.spur_snoop.specs.Protocol.{is_alive};
 ghost use Rattle.spur_flat.specs.TagRules.{may_claim};
-ghost use Rattle.spur_bus.specs.Agrees.{Agrees, Serves};
+ghost use Rattle.spur_bus.specs.Agrees.{Agrees, AgreesWithMemory};
 ghost use Rattle.spur_bus.specs.Boards.{line_of_block};
 ghost use Rattle.spur_bus.specs.Calls.{MayRead, line_tag};
 ghost use Rattle.spur_bus.specs.Fits.{AllFit, EachFits, fits, may_go};
@@ -48,7 +48,7 @@ const PLACE: Place = Place {
 
 /// The state of a block in a board's cache.
 fn state<T: HasCache>(boards: &[T], b: u32, at: GlobalAddr) -> BlockState
-    ensures { result ≡ state_of (line_tag (line_of_block (caches T.lens boards.now) b at)) }
+    ensures { result ≡ block_state (line_tag (line_of_block (caches T.lens boards.now) b at)) }
 {
     match boards.get(b as usize) {
         Some(board) => match board.cache().find(at) {
@@ -110,7 +110,7 @@ fn all_fit<T: HasCache>(boards: &[T], at: GlobalAddr, frame: u32) -> bool
 
 /// Whether what stands on the line of a block may go.
 fn may_replace(cache: &Cache, at: GlobalAddr) -> bool
-    ensures { result ≡ may_go at (standing cache.now at) }
+    ensures { result ≡ may_go at (occupant cache.now at) }
 {
     match cache.line((at.block() % cache.lines() as u64) as u16) {
         Some(line) => { line.tag != at.block() && !is_owner(line.state) }
@@ -133,9 +133,9 @@ fn may_read<T: HasCache>(boards: &[T], phys: &Phys, b: u32, at: GlobalAddr, fram
 fn try_share<T: HasCache>(boards: &mut [T], phys: &Phys, b: u32, at: GlobalAddr) -> Option<Entry>
     requires own { b < length boards.old }
     requires agree { Agrees (caches T.lens boards.old) }
-    requires serves { Serves (caches T.lens boards.old) phys.now }
+    requires serves { AgreesWithMemory (caches T.lens boards.old) phys.now }
     ensures agree { Agrees (caches T.lens boards.new) }
-    ensures serves { Serves (caches T.lens boards.new) phys.now }
+    ensures serves { AgreesWithMemory (caches T.lens boards.new) phys.now }
 {
     if !may_read(boards, phys, b, at, PLACE.frame) {
         return None;
@@ -147,9 +147,9 @@ fn try_share<T: HasCache>(boards: &mut [T], phys: &Phys, b: u32, at: GlobalAddr)
 fn try_take<T: HasCache>(boards: &mut [T], phys: &Phys, b: u32, at: GlobalAddr) -> Option<Entry>
     requires own { b < length boards.old }
     requires agree { Agrees (caches T.lens boards.old) }
-    requires serves { Serves (caches T.lens boards.old) phys.now }
+    requires serves { AgreesWithMemory (caches T.lens boards.old) phys.now }
     ensures agree { Agrees (caches T.lens boards.new) }
-    ensures serves { Serves (caches T.lens boards.new) phys.now }
+    ensures serves { AgreesWithMemory (caches T.lens boards.new) phys.now }
 {
     if !may_read(boards, phys, b, at, PLACE.frame) {
         return None;
@@ -161,9 +161,9 @@ fn try_take<T: HasCache>(boards: &mut [T], phys: &Phys, b: u32, at: GlobalAddr) 
 fn try_claim<T: HasCache>(boards: &mut [T], phys: &Phys, b: u32, at: GlobalAddr) -> Option<Entry>
     requires own { b < length boards.old }
     requires agree { Agrees (caches T.lens boards.old) }
-    requires serves { Serves (caches T.lens boards.old) phys.now }
+    requires serves { AgreesWithMemory (caches T.lens boards.old) phys.now }
     ensures agree { Agrees (caches T.lens boards.new) }
-    ensures serves { Serves (caches T.lens boards.new) phys.now }
+    ensures serves { AgreesWithMemory (caches T.lens boards.new) phys.now }
 {
     if !can_claim(state(boards, b, at)) {
         return None;
@@ -180,9 +180,9 @@ fn try_write_back<T: HasCache>(
 ) -> Option<Entry>
     requires own { b < length boards.old }
     requires agree { Agrees (caches T.lens boards.old) }
-    requires serves { Serves (caches T.lens boards.old) phys.old }
+    requires serves { AgreesWithMemory (caches T.lens boards.old) phys.old }
     ensures agree { Agrees (caches T.lens boards.new) }
-    ensures serves { Serves (caches T.lens boards.new) phys.new }
+    ensures serves { AgreesWithMemory (caches T.lens boards.new) phys.new }
 {
     if !is_owner(state(boards, b, at)) {
         return None;
@@ -199,9 +199,9 @@ fn try_flush<T: HasCache>(
 ) -> Option<Entry>
     requires own { holder < length boards.old }
     requires agree { Agrees (caches T.lens boards.old) }
-    requires serves { Serves (caches T.lens boards.old) phys.old }
+    requires serves { AgreesWithMemory (caches T.lens boards.old) phys.old }
     ensures agree { Agrees (caches T.lens boards.new) }
-    ensures serves { Serves (caches T.lens boards.new) phys.new }
+    ensures serves { AgreesWithMemory (caches T.lens boards.new) phys.new }
 {
     if !is_valid(state(boards, holder, at)) {
         return None;
@@ -227,8 +227,8 @@ fn is_valid(state: BlockState) -> bool
 fn clear<T: HasCache>(boards: &[T], phys: &mut Phys, b: u32, at: GlobalAddr)
     requires own { b < length boards.now }
     requires agree { Agrees (caches T.lens boards.now) }
-    requires serves { Serves (caches T.lens boards.now) phys.old }
-    ensures { Serves (caches T.lens boards.now) phys.new }
+    requires serves { AgreesWithMemory (caches T.lens boards.now) phys.old }
+    ensures { AgreesWithMemory (caches T.lens boards.now) phys.new }
 {
     if let Some(line) = boards[b as usize].cache().find(at) {
         if is_owner(line.state) {
@@ -246,9 +246,9 @@ fn run<T: HasCache>(
     at: GlobalAddr,
 ) -> Option<Entry>
     requires agree { Agrees (caches T.lens boards.old) }
-    requires serves { Serves (caches T.lens boards.old) phys.old }
+    requires serves { AgreesWithMemory (caches T.lens boards.old) phys.old }
     ensures agree { Agrees (caches T.lens boards.new) }
-    ensures serves { Serves (caches T.lens boards.new) phys.new }
+    ensures serves { AgreesWithMemory (caches T.lens boards.new) phys.new }
 {
     if b as usize >= boards.len() {
         return None;

@@ -5,7 +5,7 @@ use Rattle.std.proofs.lemmas.List.{length-set}
 use Rattle.spur_addr.specs.Address.{block_of}
 use Rattle.spur_cache.specs.declared.line.Line.{Line}
 use Rattle.spur_snoop.specs.Size.{IsLineCount}
-use Rattle.spur_cache.specs.Lines.{IsCache, IsHeld, found, tagged, line_at, slot_of, filled, left_by, with_line, with_state, set_found, changed, changed_found, in_state}
+use Rattle.spur_cache.specs.Lines.{IsCache, IsHeld, found, tagged, line_at, index_of, filled, left_by, with_line, with_state, set_found, changed, changed_found, in_state}
 use Rattle.spur_snoop.specs.declared.BlockState.{BlockState}
 use Rattle.spur_snoop.specs.declared.BlockState.TheVariants.{Invalid, UnOwned, OwnedNonExclusive, OwnedExclusive}
 
@@ -24,7 +24,7 @@ some_same a b h = cc
 
 -- what may stand at a place
 pub record MayStand (lines : List (Option Line)) (slot : ℕ) (new : Option Line) : Type 0 where
-  pub placed : (line : Line) → new ≡ Some line → slot_of lines line.tag ≡ slot
+  pub placed : (line : Line) → new ≡ Some line → index_of lines line.tag ≡ slot
   pub held : (line : Line) → new ≡ Some line → IsHeld line
 
 -- it may be put there
@@ -47,14 +47,14 @@ cache-set lines slot new cache may =
     }
 
 -- a line that a cache may hold, at its place
-pub may_fill : (lines : List (Option Line)) (line : Line) → IsHeld line → MayStand lines (slot_of lines line.tag) (Some line)
+pub may_fill : (lines : List (Option Line)) (line : Line) → IsHeld line → MayStand lines (index_of lines line.tag) (Some line)
 may_fill lines line held = record {
-  placed = λ l is. ap (λ (m : Line). slot_of lines m.tag) (sym (some_same line l is));
+  placed = λ l is. ap (λ (m : Line). index_of lines m.tag) (sym (some_same line l is));
   held = λ l is. subst IsHeld (some_same line l is) held;
 }
 
 pub cache-fill : (lines : List (Option Line)) (line : Line) → IsCache lines → IsHeld line → IsCache (with_line lines line)
-cache-fill lines line cache held = cache-set lines (slot_of lines line.tag) (Some line) cache (may_fill lines line held)
+cache-fill lines line cache held = cache-set lines (index_of lines line.tag) (Some line) cache (may_fill lines line held)
 
 -- a valid line is there once it is filled in
 left_valid : (state : BlockState) (line : Line) → state ≢ Invalid → left_by state line ≡ Some line
@@ -64,7 +64,7 @@ left_valid OwnedNonExclusive line live = refl
 left_valid OwnedExclusive line live = refl
 
 pub filled_valid : (lines : List (Option Line)) (line : Line) → line.state ≢ Invalid → filled lines line ≡ with_line lines line
-filled_valid lines line live = ap (slice_set lines (slot_of lines line.tag)) (left_valid line.state line live)
+filled_valid lines line live = ap (slice_set lines (index_of lines line.tag)) (left_valid line.state line live)
 
 -- nothing, at any place
 pub cache-drop : (lines : List (Option Line)) (slot : ℕ) → IsCache lines → IsCache (slice_set lines slot None)
@@ -86,17 +86,17 @@ pub tagged_there : (tag : ℕ) (line : Line) → line.tag ≡ tag → tagged tag
 tagged_there tag line is = ap (λ (b : Bool). if b then Some line else None) (eq-eqb line.tag tag is)
 
 pub found_tag : (lines : List (Option Line)) (g : ℕ) (line : Line) → found lines g ≡ Some line → line.tag ≡ block_of g
-found_tag lines g line is = (tagged_is (block_of g) (line_at lines (slot_of lines (block_of g))) line is).1
+found_tag lines g line is = (tagged_is (block_of g) (line_at lines (index_of lines (block_of g))) line is).1
 
 pub found_held : (lines : List (Option Line)) (g : ℕ) (line : Line) → IsCache lines → found lines g ≡ Some line → IsHeld line
-found_held lines g line cache is = cache.held (slot_of lines (block_of g)) line (tagged_is (block_of g) (line_at lines (slot_of lines (block_of g))) line is).0
+found_held lines g line cache is = cache.held (index_of lines (block_of g)) line (tagged_is (block_of g) (line_at lines (index_of lines (block_of g))) line is).0
 
 -- to put back a line that was found, with a change, changes it
 pub changed_is : (lines : List (Option Line)) (g : ℕ) (change : Line → Line) (line : Line) → found lines g ≡ Some line → (change line).tag ≡ block_of g
     → with_line lines (change line) ≡ changed lines g change
 changed_is lines g change line is tag =
-    ap (λ (n : ℕ). slice_set lines (slot_of lines n) (Some (change line))) tag
-    ∙ ap (changed_found lines (slot_of lines (block_of g)) change) (sym is)
+    ap (λ (n : ℕ). slice_set lines (index_of lines n) (Some (change line))) tag
+    ∙ ap (changed_found lines (index_of lines (block_of g)) change) (sym is)
 
 -- and so with another state, or to drop it
 in_state_live : (state : BlockState) (line : Line) → state ≢ Invalid → in_state state line ≡ Some (record line { state = state })
@@ -108,10 +108,10 @@ in_state_live OwnedExclusive line live = refl
 pub restated_is : (lines : List (Option Line)) (g : ℕ) (state : BlockState) (line : Line) → state ≢ Invalid → found lines g ≡ Some line → line.tag ≡ block_of g
     → with_line lines (record line { state = state }) ≡ with_state lines g state
 restated_is lines g state line live is tag =
-    ap (λ (n : ℕ). slice_set lines (slot_of lines n) (Some (record line { state = state }))) tag
-    ∙ ap (slice_set lines (slot_of lines (block_of g))) (sym (in_state_live state line live))
-    ∙ ap (set_found lines (slot_of lines (block_of g)) state) (sym is)
+    ap (λ (n : ℕ). slice_set lines (index_of lines n) (Some (record line { state = state }))) tag
+    ∙ ap (slice_set lines (index_of lines (block_of g))) (sym (in_state_live state line live))
+    ∙ ap (set_found lines (index_of lines (block_of g)) state) (sym is)
 
 pub dropped_is : (lines : List (Option Line)) (g : ℕ) (line : Line) → found lines g ≡ Some line
-    → slice_set lines (slot_of lines (block_of g)) None ≡ with_state lines g Invalid
-dropped_is lines g line is = ap (set_found lines (slot_of lines (block_of g)) Invalid) (sym is)
+    → slice_set lines (index_of lines (block_of g)) None ≡ with_state lines g Invalid
+dropped_is lines g line is = ap (set_found lines (index_of lines (block_of g)) Invalid) (sym is)

@@ -5,13 +5,13 @@ use Rattle.std.specs.List.Sorted.{IsStrictlyIncreasing}
 use Rattle.std.proofs.lemmas.Bool.{eq-eqb, eqb-true}
 use Rattle.spur_addr.specs.Address.{block_of, page_of}
 use Rattle.spur_cache.specs.declared.line.Line.{Line}
-use Rattle.spur_cache.specs.Lines.{tagged, line_at, slot_of, is_of_page, page_lines_from, page_lines_of}
+use Rattle.spur_cache.specs.Lines.{tagged, line_at, index_of, is_of_page, page_lines_from, page_lines_of}
 use Rattle.spur_cache.specs.Laws.{HoldsPage, FoundWhereItStands, FoundHasTheBlock, PageLinesHoldIt, PageLinesAscend}
 use Rattle.spur_cache.proofs.CacheFacts.{tagged_there, found_tag, some_same}
 
 pub found_where_it_stands : FoundWhereItStands
 found_where_it_stands lines g slot line cache stands is =
-    let place : slot_of lines (block_of g) ≡ slot = ap (slot_of lines) (sym is) ∙ cache.placed slot line stands in
+    let place : index_of lines (block_of g) ≡ slot = ap (index_of lines) (sym is) ∙ cache.placed slot line stands in
     ap (λ (s : ℕ). tagged (block_of g) (line_at lines s)) place ∙ ap (tagged (block_of g)) stands ∙ tagged_there (block_of g) line is
 
 pub found_has_the_block : FoundHasTheBlock

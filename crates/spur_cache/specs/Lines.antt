@@ -7,8 +7,8 @@ use Rattle.spur_snoop.specs.declared.BlockState.{BlockState}
 use Rattle.spur_snoop.specs.declared.BlockState.TheVariants.{Invalid, UnOwned, OwnedNonExclusive, OwnedExclusive}
 
 -- the place of a block, by its number
-abbrev pub slot_of : List (Option Line) → ℕ → ℕ
-slot_of lines tag = tag % length lines
+abbrev pub index_of : List (Option Line) → ℕ → ℕ
+index_of lines tag = tag % length lines
 
 -- what may stand at a place, where there is one
 abbrev pub joined : Option (Option Line) → Option Line
@@ -28,7 +28,7 @@ pub record IsHeld (line : Line) : Type 0 where
 -- a cache has a power of two of places, from 16 to 4096, and each line stands on its place
 pub record IsCache (lines : List (Option Line)) : Type 0 where
   pub count : IsLineCount (length lines)
-  pub placed : (slot : ℕ) (line : Line) → line_at lines slot ≡ Some line → slot_of lines line.tag ≡ slot
+  pub placed : (slot : ℕ) (line : Line) → line_at lines slot ≡ Some line → index_of lines line.tag ≡ slot
   pub held : (slot : ℕ) (line : Line) → line_at lines slot ≡ Some line → IsHeld line
 
 -- the line, if it holds the block with this number
@@ -42,16 +42,16 @@ not_tagged tag None = None
 not_tagged tag (Some line) = if line.tag == tag then None else Some line
 
 -- what stands at the place of the block of g
-abbrev pub standing : List (Option Line) → ℕ → Option Line
-standing lines g = line_at lines (slot_of lines (block_of g))
+abbrev pub occupant : List (Option Line) → ℕ → Option Line
+occupant lines g = line_at lines (index_of lines (block_of g))
 
 -- the line of the block of g
 abbrev pub found : List (Option Line) → ℕ → Option Line
-found lines g = tagged (block_of g) (line_at lines (slot_of lines (block_of g)))
+found lines g = tagged (block_of g) (line_at lines (index_of lines (block_of g)))
 
 -- the line of another block that stands at the place of the block of g
 abbrev pub victim_of : List (Option Line) → ℕ → Option Line
-victim_of lines g = not_tagged (block_of g) (standing lines g)
+victim_of lines g = not_tagged (block_of g) (occupant lines g)
 
 -- the word of g in a line of its block
 abbrev pub word_in : Option Line → ℕ → ℕ
@@ -60,7 +60,7 @@ word_in (Some line) g = slice_index line.words (word_in_block_of g)
 
 -- the lines with one put in its place, whatever stood there
 abbrev pub with_line : List (Option Line) → Line → List (Option Line)
-with_line lines line = slice_set lines (slot_of lines line.tag) (Some line)
+with_line lines line = slice_set lines (index_of lines line.tag) (Some line)
 
 -- what a line in this state leaves at its place: nothing where it is Invalid
 abbrev pub left_by : BlockState → Line → Option Line
@@ -71,7 +71,7 @@ left_by OwnedExclusive line = Some line
 
 -- the lines after one was filled in, valid or not
 abbrev pub filled : List (Option Line) → Line → List (Option Line)
-filled lines line = slice_set lines (slot_of lines line.tag) (left_by line.state line)
+filled lines line = slice_set lines (index_of lines line.tag) (left_by line.state line)
 
 -- a line in another state; an invalid one is none
 abbrev pub in_state : BlockState → Line → Option Line
@@ -87,7 +87,7 @@ set_found lines slot state (Some line) = slice_set lines slot (in_state state li
 
 -- the lines with that of the block of g in another state
 abbrev pub with_state : List (Option Line) → ℕ → BlockState → List (Option Line)
-with_state lines g state = set_found lines (slot_of lines (block_of g)) state (found lines g)
+with_state lines g state = set_found lines (index_of lines (block_of g)) state (found lines g)
 
 -- the lines with that at a place changed, where there is one
 abbrev pub changed_found : List (Option Line) → ℕ → (Line → Line) → Option Line → List (Option Line)
@@ -96,7 +96,7 @@ changed_found lines slot change (Some line) = slice_set lines slot (Some (change
 
 -- the lines with that of the block of g changed
 abbrev pub changed : List (Option Line) → ℕ → (Line → Line) → List (Option Line)
-changed lines g change = changed_found lines (slot_of lines (block_of g)) change (found lines g)
+changed lines g change = changed_found lines (index_of lines (block_of g)) change (found lines g)
 
 -- a line with its copy of the dirty bit set
 abbrev pub dirtied : Line → Line

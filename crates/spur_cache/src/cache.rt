@@ -2,7 +2,7 @@
 
 ghost use Rattle.std.specs.Prelude.{◌≡◌, ◌≢◌, ◌<◌, ◌^◌, ◌↔◌, ◌⊎◌, Err, IfErr, IfOk, IsSome, None, Some, length, option_copied, replicate, slice_set, true};
 ghost use Rattle.spur_addr.specs.Address.{block_of, page_of};
-ghost use Rattle.spur_cache.specs.Lines.{IsCache, IsHeld, IsSpan, found, line_at, filled, page_lines_of, slot_of, victim_of, with_dirty, with_line, with_state, with_word, word_in};
+ghost use Rattle.spur_cache.specs.Lines.{IsCache, IsHeld, IsSpan, found, line_at, filled, page_lines_of, index_of, victim_of, with_dirty, with_line, with_state, with_word, word_in};
 ghost use Rattle.spur_snoop.specs.Size.{IsLineCount};
 ghost use Rattle.spur_cache.specs.declared.fault.CacheFault.TheVariants.{BadLines, NoMemory};
 ghost use Rattle.spur_snoop.specs.declared.BlockState.TheVariants.{Invalid};
@@ -205,7 +205,7 @@ impl Cache {
 
     /// Leaves nothing at the place of the block with this number.
     fn clear(&mut self, block: u64)
-        ensures { self.new ≡ slice_set self.old (slot_of self.old block) None }
+        ensures { self.new ≡ slice_set self.old (index_of self.old block) None }
     {
         let slot = self.slot(block);
         self.lines[slot] = None;
@@ -221,7 +221,7 @@ impl Cache {
 
     /// The place of the block with this number.
     fn slot(&self, block: u64) -> usize
-        ensures value { result ≡ slot_of self.now block }
+        ensures value { result ≡ index_of self.now block }
         ensures within { result < length self.now }
         ensures cache { IsCache self.now }
     {

@@ -30,10 +30,10 @@ is_ending Reference = false
 is_ending Dirty = false
 
 -- a processor wants an access
-abbrev pub IsAccess : Want → Type 0
-IsAccess Local = ⊥
-IsAccess (Access kind va value) = Unit {0}
-IsAccess Ended = ⊥
+abbrev pub WantsAccess : Want → Type 0
+WantsAccess Local = ⊥
+WantsAccess (Access kind va value) = Unit {0}
+WantsAccess Ended = ⊥
 
 -- an access may be answered so: of the faults only those that end the board are told to a processor
 abbrev pub MayAnswer : Answer → Type 0
@@ -44,4 +44,4 @@ MayAnswer (Faulted kind) = is_ending kind ≡ true
 -- more after a local instruction has halted by it.
 pub record IsLawful {S : Type 0} (m : Meaning S) : Type 0 where
   pub faulted : (s : S) (kind : FaultKind) → m.wants (m.answer s (Faulted kind)) ≡ Ended
-  pub done : (s : S) (value : ℕ) → IsAccess (m.wants s) → m.wants (m.answer s (Done value)) ≢ Ended
+  pub done : (s : S) (value : ℕ) → WantsAccess (m.wants s) → m.wants (m.answer s (Done value)) ≢ Ended

@@ -37,7 +37,7 @@ pub enum Answer {
 /// states after a local instruction and after an answer. A processor's state is what it is now. Beside the state it has
 /// room for so many values that it may still show, and none of its calls takes memory.
 pub trait Cpu: Drop {
-    ghost use Rattle.spur_cpu.specs.Meaning.{IsAccess, IsLawful, MayAnswer, Meaning};
+    ghost use Rattle.spur_cpu.specs.Meaning.{WantsAccess, IsLawful, MayAnswer, Meaning};
     ghost use Rattle.spur_cpu.specs.declared.cpu.Want.TheVariants.{Local};
 
     ghost State: { Type 0 };
@@ -62,7 +62,7 @@ pub trait Cpu: Drop {
 
     /// Takes the answer of the access that the processor wants. It takes no room.
     fn answer(&mut self, answer: Answer)
-        requires access { IsAccess (meaning.wants (state self.old)) }
+        requires access { WantsAccess (meaning.wants (state self.old)) }
         requires ending { MayAnswer answer }
         ensures state { state self.new ≡ meaning.answer (state self.old) answer }
         ensures room { room self.new ≡ room self.old };

@@ -16,8 +16,8 @@ use Rattle.spur_flat.specs.declared.entry.Entry.TheVariants.{Load, Store, Tas, F
 use Rattle.spur_flat.specs.Access.{allows, is_write, may}
 use Rattle.spur_flat.specs.Table.{entry_at, place_in, table_words, walk_of}
 use Rattle.spur_flat.specs.Validity.{IsDataFrame, IsDeclared, IsValidFlat}
-use Rattle.spur_flat.specs.Pager.{brought_entry, come_in, entry_place, gone_out, is_declared, is_free_frame, loaded, or_zero, page_at, position_in, slot_of, with_entry, with_entry_bit, word_of}
-use Rattle.spur_flat.specs.History.{on, with_word}
+use Rattle.spur_flat.specs.Pager.{brought_entry, come_in, entry_place, gone_out, is_declared, is_free_frame, page_loaded, or_zero, page_at, position_in, swap_slot_of, with_entry, with_entry_bit, word_of}
+use Rattle.spur_flat.specs.History.{on, with_word_at}
 use Rattle.spur_flat.specs.Laws.{address_of}
 use Rattle.spur_flat.specs.Clean.{AreClean, LegalStaysClean, NoneValidIsClean, StaysClean}
 use Rattle.spur_flat.proofs.HistoryFacts.{first_of_all, first_true, rest_of_all, stays-valid}
@@ -64,7 +64,7 @@ valid_has_frame F page ok user valid =
     }
 
 -- two declared pages have two slots
-slots_apart : (F : Flat) (g page : ℕ) → is_declared F g ≡ true → IsDeclared F.pages page → page ≢ page_of g → slot_of F (page_address page) ≢ slot_of F g
+slots_apart : (F : Flat) (g page : ℕ) → is_declared F g ≡ true → IsDeclared F.pages page → page ≢ page_of g → swap_slot_of F (page_address page) ≢ swap_slot_of F g
 slots_apart F g page declared d apart same =
     let found : list_any (λ (q : ℕ). q == page) F.pages ≡ true = list_any_at (λ (q : ℕ). q == page) F.pages d.position 0 d.within (eq-eqb (slice_index F.pages d.position) page d.is) in
     let its : position_in F.pages page ≡ position_in F.pages (page_of g) = ap (position_in F.pages) (sym (page_of-address page)) ∙ same in
@@ -103,7 +103,7 @@ entered F g e ok small declared =
 -- a page of a data frame that has the same number as before, and is neither written nor entered
 kept : (F : Flat) (g e page : ℕ) → IsValidFlat F → Entered F g e → AreClean F → page < user_pages → is_valid (word_of F (page_address page)) ≡ true
     → is_dirty (word_of F (page_address page)) ≡ false → number_of (word_of (with_entry F g e) (page_address page)) ≡ number_of (word_of F (page_address page))
-    → page_at (with_entry F g e).words (number_of (word_of (with_entry F g e) (page_address page))) ≡ page_at F.swap (slot_of F (page_address page))
+    → page_at (with_entry F g e).words (number_of (word_of (with_entry F g e) (page_address page))) ≡ page_at F.swap (swap_slot_of F (page_address page))
 kept F g e page ok all clean user valid clear number =
     ap (page_at (with_entry F g e).words) number
     ∙ all.words (number_of (word_of F (page_address page))) (valid_has_frame F page ok user valid).frame.low
@@ -159,7 +159,7 @@ done_is_dirty e kind g write h = done_dirty (is_aligned g) (is_valid e) (allows 
 
 -- the word of a dirty page is written
 clean-with_word : (F : Flat) (g e value : ℕ) → IsValidFlat F → g < 2 ^ 38 → walk_of F g ≡ Some e → is_valid e ≡ true → is_dirty e ≡ true → AreClean F
-    → AreClean (with_word F (number_of e * 1024 + g / 2 ^ 2 % 1024) value)
+    → AreClean (with_word_at F (number_of e * 1024 + g / 2 ^ 2 % 1024) value)
 clean-with_word F g e value ok small walked valid_e dirty clean page user valid clear =
     let u : page < 255 * 2 ^ 18 = user in
     let place : ℕ = number_of e * 1024 + g / 2 ^ 2 % 1024 in
@@ -167,8 +167,8 @@ clean-with_word F g e value ok small walked valid_e dirty clean page user valid 
     let new : List ℕ = slice_set F.words place value in
     let entries : entry_at new page ≡ entry_at F.words page =
     entry_at-same F.words new F.pages F.tables F.frames ok.tables (λ (k : ℕ) (below : k < table_words F.tables). get_or-set_other F.words place k value 0 (λ (h : k ≡ place). omega arith)) page (omega arith) in
-    let same : word_of (with_word F place value) (page_address page) ≡ word_of F (page_address page) =
-    word_of-page (with_word F place value) page ∙ ap or_zero entries ∙ sym (word_of-page F page) in
+    let same : word_of (with_word_at F place value) (page_address page) ≡ word_of F (page_address page) =
+    word_of-page (with_word_at F place value) page ∙ ap or_zero entries ∙ sym (word_of-page F page) in
     let was : is_valid (word_of F (page_address page)) ≡ true = ap is_valid (sym same) ∙ valid in
     let clear_was : is_dirty (word_of F (page_address page)) ≡ false = ap is_dirty (sym same) ∙ clear in
     let its : HasFrame F page = valid_has_frame F page ok user was in
@@ -187,7 +187,7 @@ no_done true h = cc
 no_done false h = cc
 
 clean_written : (F : Flat) (kind : AccessKind) (g value : ℕ) (entry : Option ℕ) → IsValidFlat F → g < 2 ^ 38 → walk_of F g ≡ entry → is_write kind ≡ true → may entry kind g None ≡ true
-    → AreClean F → AreClean (with_word F (place_in entry g) value)
+    → AreClean F → AreClean (with_word_at F (place_in entry g) value)
 clean_written F kind g value None ok small walked write done clean = absurd (no_done (is_aligned g) done)
 clean_written F kind g value (Some e) ok small walked write done clean =
     clean-with_word F g e value ok small walked (done_is_valid e kind g done) (done_is_dirty e kind g write done) clean
@@ -197,7 +197,7 @@ clean_written F kind g value (Some e) ok small walked write done clean =
 -- each page but one is clean
 abbrev AreCleanBut : Flat → ℕ → Type 0
 AreCleanBut F but = (page : ℕ) → page < user_pages → page ≢ but → is_valid (word_of F (page_address page)) ≡ true → is_dirty (word_of F (page_address page)) ≡ false
-    → page_at F.words (number_of (word_of F (page_address page))) ≡ page_at F.swap (slot_of F (page_address page))
+    → page_at F.words (number_of (word_of F (page_address page))) ≡ page_at F.swap (swap_slot_of F (page_address page))
 
 -- that one is no more valid
 clean_left : (F : Flat) (g e : ℕ) → IsValidFlat F → g < 2 ^ 38 → is_declared F g ≡ true → is_valid e ≡ false → AreCleanBut F (page_of g) → AreClean (with_entry F g e)
@@ -220,19 +220,19 @@ clean_saved F g ok small declared frame clean page user apart valid clear =
     let its : HasFrame F page = valid_has_frame F page ok user valid in
     let n : ℕ = number_of (word_of F g) in
     let at : page_of (page_address page) ≡ page = page_of-address page in
-    let put : IsPut F.swap (page_at F.words n) (slot_of F g) = record { within = slot_inside F g ok small declared; long = page_long F.words n (frame_inside F n ok frame) } in
+    let put : IsPut F.swap (page_at F.words n) (swap_slot_of F g) = record { within = slot_inside F g ok small declared; long = page_long F.words n (frame_inside F n ok frame) } in
     let u : page < 255 * 2 ^ 18 = user in
     let swap : length F.swap ≡ 1024 * length F.pages = ok.swap in
     let found : list_any (λ (q : ℕ). q == page) F.pages ≡ true = list_any_at (λ (q : ℕ). q == page) F.pages its.declared.position 0 its.declared.within (eq-eqb (slice_index F.pages its.declared.position) page its.declared.is) in
     let below : position_in F.pages page < length F.pages = (is_at_position F.pages page found).within in
-    let slot : slot_of F (page_address page) ≡ position_in F.pages page = ap (position_in F.pages) at in
+    let slot : swap_slot_of F (page_address page) ≡ position_in F.pages page = ap (position_in F.pages) at in
     clean page user valid clear
-    ∙ sym (page_other F.swap (page_at F.words n) (slot_of F g) (slot_of F (page_address page)) put (omega arith) (slots_apart F g page declared its.declared apart))
+    ∙ sym (page_other F.swap (page_at F.words n) (swap_slot_of F g) (swap_slot_of F (page_address page)) put (omega arith) (slots_apart F g page declared its.declared apart))
 
 clean-gone_out : (F : Flat) (g : ℕ) → IsValidFlat F → g < 2 ^ 38 → is_declared F g ≡ true → is_valid (word_of F g) ≡ true → AreClean F → AreClean (gone_out F g (word_of F g))
 clean-gone_out F g ok small declared valid clean =
-    let e : ℕ = swapped_of (slot_of F g) (protection_of (word_of F g)) in
-    let gone : is_valid e ≡ false = is_valid-swapped (slot_of F g) (protection_of (word_of F g)) in
+    let e : ℕ = swapped_of (swap_slot_of F g) (protection_of (word_of F g)) in
+    let gone : is_valid e ≡ false = is_valid-swapped (swap_slot_of F g) (protection_of (word_of F g)) in
     let has = declared_stands F g ok small declared in
     let frame : IsDataFrame F.tables F.frames (number_of (word_of F g)) = ok.tables.frame (page_of g) (word_of F g) (omega arith) has.there valid in
     either (λ (G : Flat). AreClean (with_entry G g e)) (is_dirty (word_of F g)) (written F g (word_of F g)) F
@@ -246,11 +246,11 @@ clean-come_in : (F : Flat) (g frame : ℕ) → IsValidFlat F → g < 2 ^ 38 → 
 clean-come_in F g frame ok small declared free clean page user valid clear =
     let u : page < 255 * 2 ^ 18 = user in
     let is_free = free_frame F frame free in
-    let G : Flat = loaded F g frame in
+    let G : Flat = page_loaded F g frame in
     let e : ℕ = brought_entry frame (word_of F g) in
-    let part : List ℕ = page_at F.swap (slot_of F g) in
+    let part : List ℕ = page_at F.swap (swap_slot_of F g) in
     let all : Entered G g e = entered G g e (valid-loaded F g frame ok small declared free) small declared in
-    let put : IsPut F.words part frame = record { within = frame_inside F frame ok is_free.among; long = page_long F.swap (slot_of F g) (slot_inside F g ok small declared) } in
+    let put : IsPut F.words part frame = record { within = frame_inside F frame ok is_free.among; long = page_long F.swap (swap_slot_of F g) (slot_inside F g ok small declared) } in
     ⊎_elim
     (λ (is : page ≡ page_of g).
     ap (λ (w : ℕ). page_at (with_entry G g e).words (number_of w)) (all.here page is)

@@ -7,7 +7,7 @@ use Rattle.spur_addr.specs.PageEntry.{is_valid, number_of}
 use Rattle.spur_flat.specs.declared.flat.Flat.{Flat}
 use Rattle.spur_flat.specs.Table.{table_words, walk_of}
 use Rattle.spur_flat.specs.Validity.{ArePages, AreTables, IsValidFlat}
-use Rattle.spur_flat.specs.Pager.{word_of, is_declared, has_frame, is_free_frame, entry_place, slot_of}
+use Rattle.spur_flat.specs.Pager.{word_of, is_declared, has_frame, is_free_frame, entry_place, swap_slot_of}
 use Rattle.spur_flat.specs.Pager as pager
 use Rattle.spur_flat.specs.Untold.{IsLike}
 use Rattle.spur_flat.specs.UntoldLaws.{LikeIsValid}
@@ -44,7 +44,7 @@ pub declared_same : (F other : Flat) (g : ℕ) → IsLike F other → is_declare
 declared_same F other g like = ap (λ (pages : List ℕ). list_any (λ page. page == page_of g) pages) like.pages
 
 -- and a page has the same slot
-pub slot_same : (F other : Flat) (g : ℕ) → IsLike F other → slot_of F g ≡ slot_of other g
+pub slot_same : (F other : Flat) (g : ℕ) → IsLike F other → swap_slot_of F g ≡ swap_slot_of other g
 slot_same F other g like = ap (λ (pages : List ℕ). pager.position_in pages (page_of g)) like.pages
 
 -- tests that agree on every member of a list agree on whether one passes

@@ -9,7 +9,7 @@ use Rattle.spur_snoop.specs.declared.BusKind.{BusKind}
 use Rattle.spur_snoop.specs.declared.BusKind.TheVariants as bus
 use Rattle.spur_snoop.specs.declared.Need.{Need}
 use Rattle.spur_snoop.specs.declared.Need.TheVariants.{Read, Write}
-use Rattle.spur_snoop.specs.Protocol.{is_owned, snooped_of}
+use Rattle.spur_snoop.specs.Protocol.{is_owned, snooped_of, is_alive, is_exclusive}
 use Rattle.spur_flat.specs.declared.flat.Flat.{Flat}
 use Rattle.spur_flat.specs.declared.tag.Tag.{Tag}
 use Rattle.spur_flat.specs.declared.entry.Layer.{Layer}
@@ -17,8 +17,7 @@ use Rattle.spur_flat.specs.declared.entry.Layer.TheVariants.{RootBlock, PteBlock
 use Rattle.spur_flat.specs.declared.entry.Entry.{Entry}
 use Rattle.spur_flat.specs.declared.entry.Entry.TheVariants.{Load, Store, Tas, Fault, Fill, Claim, WriteBack, Refresh, BlockFlush, Leave, PageOut, PageIn, SetRef, SetDirty, ClearRef}
 use Rattle.spur_flat.specs.History.{on}
-use Rattle.spur_flat.specs.TagLines.{IsOfBlock, bus_on, dirtied, filled_state, fresh_tag, in_state, no_tags, restated, state_of, tag_at, tags_on, with_tag_at}
-use Rattle.spur_flat.specs.TagRules.{is_alive, is_exclusive}
+use Rattle.spur_flat.specs.TagLines.{IsOfBlock, bus_on, dirtied_tag, filled_state, fresh_tag, tag_in_state, no_tags, restated_tag, block_state, tag_at, tags_on, with_tag_at}
 use Rattle.spur_flat.specs.State.{tags_after}
 use Rattle.spur_flat.specs.Ownership.{EachHasOneOwner}
 use Rattle.spur_flat.proofs.TagPlaces.{Changes, Lost, Changed, Kept, Moves, Gone, Put, Saw, bus_apart, bus_here, none_at, set_apart, set_here, tag_is_of_block}
@@ -30,8 +29,8 @@ IsValidTag (Some tag) = is_alive tag.state ≡ true
 
 -- the boards' tags of one block: one owner at most, none valid beside one that is exclusive, and each of a valid block
 record AreOfOneOwner (tags : ℕ → Option Tag) : Type 0 where
-  one_owner : (i j : ℕ) → is_owned (state_of (tags i)) ≡ true → is_owned (state_of (tags j)) ≡ true → i ≡ j
-  exclusive : (i j : ℕ) → is_exclusive (state_of (tags i)) ≡ true → is_alive (state_of (tags j)) ≡ true → i ≡ j
+  one_owner : (i j : ℕ) → is_owned (block_state (tags i)) ≡ true → is_owned (block_state (tags j)) ≡ true → i ≡ j
+  exclusive : (i j : ℕ) → is_exclusive (block_state (tags i)) ≡ true → is_alive (block_state (tags j)) ≡ true → i ≡ j
   valid : (i : ℕ) → IsValidTag (tags i)
 
 -- a state that is owned, exclusive or valid only where another is
@@ -42,7 +41,7 @@ abbrev is_weaker : BlockState → BlockState → Bool
 is_weaker before after = only_if is_owned before after && (only_if is_exclusive before after && only_if is_alive before after)
 
 record Falls (before after : Option Tag) : Type 0 where
-  weaker : is_weaker (state_of before) (state_of after) ≡ true
+  weaker : is_weaker (block_state before) (block_state after) ≡ true
   valid : IsValidTag after
 
 both_of : (a b : Bool) → (a && b) ≡ true → (a ≡ true) × (b ≡ true)
@@ -72,8 +71,8 @@ alive_before before after weaker = implied (is_alive after) (is_alive before) (o
 -- where each tag becomes weaker, one owner is left at most
 each_falls : (before after : ℕ → Option Tag) → AreOfOneOwner before → ((i : ℕ) → Falls (before i) (after i)) → AreOfOneOwner after
 each_falls before after h falls = record {
-  one_owner = λ i j owned other. h.one_owner i j (owned_before (state_of (before i)) (state_of (after i)) (falls i).weaker owned) (owned_before (state_of (before j)) (state_of (after j)) (falls j).weaker other);
-  exclusive = λ i j alone alive. h.exclusive i j (exclusive_before (state_of (before i)) (state_of (after i)) (falls i).weaker alone) (alive_before (state_of (before j)) (state_of (after j)) (falls j).weaker alive);
+  one_owner = λ i j owned other. h.one_owner i j (owned_before (block_state (before i)) (block_state (after i)) (falls i).weaker owned) (owned_before (block_state (before j)) (block_state (after j)) (falls j).weaker other);
+  exclusive = λ i j alone alive. h.exclusive i j (exclusive_before (block_state (before i)) (block_state (after i)) (falls i).weaker alone) (alive_before (block_state (before j)) (block_state (after j)) (falls j).weaker alive);
   valid = λ i. (falls i).valid;
 }
 
@@ -92,21 +91,21 @@ owned_if_exclusive OwnedExclusive e = refl
 -- where at most one board has a tag, it is the one owner
 one_left : (after : ℕ → Option Tag) (own : ℕ) → ((i : ℕ) → IsValidTag (after i)) → ((i : ℕ) → (after i ≡ None) ⊎ (i ≡ own)) → AreOfOneOwner after
 one_left after own valid left = record {
-  one_owner = λ i j owned other. is_own i (alive_if_owned (state_of (after i)) owned) ∙ sym (is_own j (alive_if_owned (state_of (after j)) other));
-  exclusive = λ i j alone alive. is_own i (alive_if_owned (state_of (after i)) (owned_if_exclusive (state_of (after i)) alone)) ∙ sym (is_own j alive);
+  one_owner = λ i j owned other. is_own i (alive_if_owned (block_state (after i)) owned) ∙ sym (is_own j (alive_if_owned (block_state (after j)) other));
+  exclusive = λ i j alone alive. is_own i (alive_if_owned (block_state (after i)) (owned_if_exclusive (block_state (after i)) alone)) ∙ sym (is_own j alive);
   valid = valid;
 } where
-  by_case : (i : ℕ) → is_alive (state_of (after i)) ≡ true → (after i ≡ None) ⊎ (i ≡ own) → i ≡ own
-  by_case i alive (inl none) = let never : false ≡ true = sym (ap (λ (o : Option Tag). is_alive (state_of o)) none) ∙ alive in absurd cc
+  by_case : (i : ℕ) → is_alive (block_state (after i)) ≡ true → (after i ≡ None) ⊎ (i ≡ own) → i ≡ own
+  by_case i alive (inl none) = let never : false ≡ true = sym (ap (λ (o : Option Tag). is_alive (block_state o)) none) ∙ alive in absurd cc
   by_case i alive (inr e) = e
 
-  is_own : (i : ℕ) → is_alive (state_of (after i)) ≡ true → i ≡ own
+  is_own : (i : ℕ) → is_alive (block_state (after i)) ≡ true → i ≡ own
   is_own i alive = by_case i alive (left i)
 
 -- a tag that is owned only where it was, and is not exclusive
 record Shares (before after : Option Tag) : Type 0 where
-  owned : is_owned (state_of after) ≡ true → is_owned (state_of before) ≡ true
-  shared : is_exclusive (state_of after) ≡ false
+  owned : is_owned (block_state after) ≡ true → is_owned (block_state before) ≡ true
+  shared : is_exclusive (block_state after) ≡ false
   valid : IsValidTag after
 
 each_shares : (before after : ℕ → Option Tag) → AreOfOneOwner before → ((i : ℕ) → Shares (before i) (after i)) → AreOfOneOwner after
@@ -153,25 +152,25 @@ shared_snooped UnOwned = refl
 shared_snooped OwnedNonExclusive = refl
 shared_snooped OwnedExclusive = refl
 
-none_if_read_owned : (s : BlockState) (t : Tag) → in_state (snooped_of s bus.ReadOwned) t ≡ None
+none_if_read_owned : (s : BlockState) (t : Tag) → tag_in_state (snooped_of s bus.ReadOwned) t ≡ None
 none_if_read_owned Invalid t = refl
 none_if_read_owned UnOwned t = refl
 none_if_read_owned OwnedNonExclusive t = refl
 none_if_read_owned OwnedExclusive t = refl
 
-none_if_claimed : (s : BlockState) (t : Tag) → in_state (snooped_of s bus.Claim) t ≡ None
+none_if_claimed : (s : BlockState) (t : Tag) → tag_in_state (snooped_of s bus.Claim) t ≡ None
 none_if_claimed Invalid t = refl
 none_if_claimed UnOwned t = refl
 none_if_claimed OwnedNonExclusive t = refl
 none_if_claimed OwnedExclusive t = refl
 
-state-in_state : (s : BlockState) (t : Tag) → state_of (in_state s t) ≡ s
+state-in_state : (s : BlockState) (t : Tag) → block_state (tag_in_state s t) ≡ s
 state-in_state Invalid t = refl
 state-in_state UnOwned t = refl
 state-in_state OwnedNonExclusive t = refl
 state-in_state OwnedExclusive t = refl
 
-valid-in_state : (s : BlockState) (t : Tag) → IsValidTag (in_state s t)
+valid-in_state : (s : BlockState) (t : Tag) → IsValidTag (tag_in_state s t)
 valid-in_state Invalid t = tt
 valid-in_state UnOwned t = refl
 valid-in_state OwnedNonExclusive t = refl
@@ -182,38 +181,38 @@ falls_none : (before : Option Tag) → Falls before None
 falls_none before = record { weaker = refl; valid = tt }
 
 falls_same : (before : Option Tag) → IsValidTag before → Falls before before
-falls_same before valid = record { weaker = weaker_same (state_of before); valid = valid }
+falls_same before valid = record { weaker = weaker_same (block_state before); valid = valid }
 
 falls_or_none : (before after : Option Tag) → IsValidTag before → (after ≡ None) ⊎ (after ≡ before) → Falls before after
 falls_or_none before after valid (inl none) = subst (Falls before) (sym none) (falls_none before)
 falls_or_none before after valid (inr same) = subst (Falls before) (sym same) (falls_same before valid)
 
-falls_snooped : (before : Option Tag) (t : Tag) (kind : BusKind) → before ≡ Some t → Falls before (in_state (snooped_of t.state kind) t)
+falls_snooped : (before : Option Tag) (t : Tag) (kind : BusKind) → before ≡ Some t → Falls before (tag_in_state (snooped_of t.state kind) t)
 falls_snooped before t kind is = record {
   weaker =
-      ap (λ (o : Option Tag). is_weaker (state_of o) (state_of (in_state (snooped_of t.state kind) t))) is
+      ap (λ (o : Option Tag). is_weaker (block_state o) (block_state (tag_in_state (snooped_of t.state kind) t))) is
       ∙ ap (λ (s : BlockState). is_weaker t.state s) (state-in_state (snooped_of t.state kind) t)
       ∙ weaker_snooped t.state kind;
   valid = valid-in_state (snooped_of t.state kind) t;
 }
 
-falls_unowned : (before : Option Tag) → IsValidTag before → Falls before (restated before UnOwned)
+falls_unowned : (before : Option Tag) → IsValidTag before → Falls before (restated_tag before UnOwned)
 falls_unowned None valid = falls_none None
 falls_unowned (Some t) valid = record { weaker = weaker_unowned t.state valid; valid = refl }
 
-falls_dirtied : (before : Option Tag) → IsValidTag before → Falls before (dirtied before)
+falls_dirtied : (before : Option Tag) → IsValidTag before → Falls before (dirtied_tag before)
 falls_dirtied None valid = falls_none None
 falls_dirtied (Some t) valid = record { weaker = weaker_same t.state; valid = valid }
 
-valid-restated : (before : Option Tag) → IsValidTag (restated before OwnedExclusive)
+valid-restated : (before : Option Tag) → IsValidTag (restated_tag before OwnedExclusive)
 valid-restated None = tt
 valid-restated (Some t) = refl
 
-restated_is_of_block : (block : ℕ) (before : Option Tag) (s : BlockState) → IsOfBlock block before → IsOfBlock block (restated before s)
+restated_is_of_block : (block : ℕ) (before : Option Tag) (s : BlockState) → IsOfBlock block before → IsOfBlock block (restated_tag before s)
 restated_is_of_block block None s is = tt
 restated_is_of_block block (Some t) s is = is
 
-dirtied_is_of_block : (block : ℕ) (before : Option Tag) → IsOfBlock block before → IsOfBlock block (dirtied before)
+dirtied_is_of_block : (block : ℕ) (before : Option Tag) → IsOfBlock block before → IsOfBlock block (dirtied_tag before)
 dirtied_is_of_block block None is = tt
 dirtied_is_of_block block (Some t) is = is
 
@@ -239,7 +238,7 @@ each_block T after block b apart here h = by_case (cases_eq b block) where
   by_case (inr other) = each_falls (λ i. tag_at T i b) (λ i. tag_at after i b) h (λ i. falls_or_none (tag_at T i b) (tag_at after i b) (h.valid i) (apart i other))
 
 -- a transaction that no other copy outlives
-bus_alone : (T : List (List (Option Tag))) (own block : ℕ) (kind : BusKind) (mine : Option Tag) → IsOfBlock block mine → IsValidTag mine → ((s : BlockState) (t : Tag) → in_state (snooped_of s kind) t ≡ None) → OneOwner (bus_on T own block kind mine) block
+bus_alone : (T : List (List (Option Tag))) (own block : ℕ) (kind : BusKind) (mine : Option Tag) → IsOfBlock block mine → IsValidTag mine → ((s : BlockState) (t : Tag) → tag_in_state (snooped_of s kind) t ≡ None) → OneOwner (bus_on T own block kind mine) block
 bus_alone T own block kind mine is valid dies = one_left (λ i. tag_at (bus_on T own block kind mine) i block) own valid_at left_at where
   valid_in : (i : ℕ) (before after : Option Tag) → Moves own kind mine i before after → IsValidTag after
   valid_in i before after (Gone e) = subst IsValidTag (sym e) tt
@@ -273,11 +272,11 @@ bus_shared T own block tag is unowned h = each_shares (λ i. tag_at T i block) (
   shares_none : (before : Option Tag) → Shares before None
   shares_none before = record { owned = λ owned. let never : false ≡ true = owned in absurd cc; shared = refl; valid = tt }
 
-  shares_seen : (before : Option Tag) (t : Tag) → before ≡ Some t → Shares before (in_state (snooped_of t.state bus.ReadShared) t)
+  shares_seen : (before : Option Tag) (t : Tag) → before ≡ Some t → Shares before (tag_in_state (snooped_of t.state bus.ReadShared) t)
   shares_seen before t b =
-      let falls : Falls before (in_state (snooped_of t.state bus.ReadShared) t) = falls_snooped before t bus.ReadShared b in
+      let falls : Falls before (tag_in_state (snooped_of t.state bus.ReadShared) t) = falls_snooped before t bus.ReadShared b in
       record {
-        owned = owned_before (state_of before) (state_of (in_state (snooped_of t.state bus.ReadShared) t)) falls.weaker;
+        owned = owned_before (block_state before) (block_state (tag_in_state (snooped_of t.state bus.ReadShared) t)) falls.weaker;
         shared = ap is_exclusive (state-in_state (snooped_of t.state bus.ReadShared) t) ∙ shared_snooped t.state;
         valid = falls.valid;
       }
@@ -291,15 +290,15 @@ bus_shared T own block tag is unowned h = each_shares (λ i. tag_at T i block) (
   shares_at i = shares_in i (tag_at T i block) (tag_at (bus_on T own block bus.ReadShared (Some tag)) i block) (bus_here T own block bus.ReadShared (Some tag) i is)
 
 -- a block is written back
-bus_written : (T : List (List (Option Tag))) (own block : ℕ) → OneOwner T block → OneOwner (bus_on T own block bus.WriteBack (restated (tag_at T own block) UnOwned)) block
-bus_written T own block h = each_falls (λ i. tag_at T i block) (λ i. tag_at (bus_on T own block bus.WriteBack (restated (tag_at T own block) UnOwned)) i block) h falls_at where
-  falls_in : (i : ℕ) (after : Option Tag) → Moves own bus.WriteBack (restated (tag_at T own block) UnOwned) i (tag_at T i block) after → Falls (tag_at T i block) after
+bus_written : (T : List (List (Option Tag))) (own block : ℕ) → OneOwner T block → OneOwner (bus_on T own block bus.WriteBack (restated_tag (tag_at T own block) UnOwned)) block
+bus_written T own block h = each_falls (λ i. tag_at T i block) (λ i. tag_at (bus_on T own block bus.WriteBack (restated_tag (tag_at T own block) UnOwned)) i block) h falls_at where
+  falls_in : (i : ℕ) (after : Option Tag) → Moves own bus.WriteBack (restated_tag (tag_at T own block) UnOwned) i (tag_at T i block) after → Falls (tag_at T i block) after
   falls_in i after (Gone e) = subst (Falls (tag_at T i block)) (sym e) (falls_none (tag_at T i block))
-  falls_in i after (Put at e) = subst (Falls (tag_at T i block)) (ap (λ (n : ℕ). restated (tag_at T n block) UnOwned) at ∙ sym e) (falls_unowned (tag_at T i block) (h.valid i))
+  falls_in i after (Put at e) = subst (Falls (tag_at T i block)) (ap (λ (n : ℕ). restated_tag (tag_at T n block) UnOwned) at ∙ sym e) (falls_unowned (tag_at T i block) (h.valid i))
   falls_in i after (Saw t b e) = subst (Falls (tag_at T i block)) (sym e) (falls_snooped (tag_at T i block) t bus.WriteBack b)
 
-  falls_at : (i : ℕ) → Falls (tag_at T i block) (tag_at (bus_on T own block bus.WriteBack (restated (tag_at T own block) UnOwned)) i block)
-  falls_at i = falls_in i (tag_at (bus_on T own block bus.WriteBack (restated (tag_at T own block) UnOwned)) i block) (bus_here T own block bus.WriteBack (restated (tag_at T own block) UnOwned) i (restated_is_of_block block (tag_at T own block) UnOwned (tag_is_of_block _ block)))
+  falls_at : (i : ℕ) → Falls (tag_at T i block) (tag_at (bus_on T own block bus.WriteBack (restated_tag (tag_at T own block) UnOwned)) i block)
+  falls_at i = falls_in i (tag_at (bus_on T own block bus.WriteBack (restated_tag (tag_at T own block) UnOwned)) i block) (bus_here T own block bus.WriteBack (restated_tag (tag_at T own block) UnOwned) i (restated_is_of_block block (tag_at T own block) UnOwned (tag_is_of_block _ block)))
 
 -- one board's tag of a block is changed: what is put there is no stronger than what was
 set_weaker : (T : List (List (Option Tag))) (own block : ℕ) (mine : Option Tag) → IsOfBlock block mine → Falls (tag_at T own block) mine → OneOwner T block → OneOwner (with_tag_at T own block mine) block
@@ -333,21 +332,21 @@ one_owner-tags_on F T (Fill board layer Write at) b h =
     (λ before. bus_alone T board (block_of at) bus.ReadOwned (Some tag) is (ap is_alive (fresh_state F layer Write at)) none_if_read_owned)
     h
 one_owner-tags_on F T (Claim board at) b h =
-    let mine : Option Tag = restated (tag_at T board (block_of at)) OwnedExclusive in
+    let mine : Option Tag = restated_tag (tag_at T board (block_of at)) OwnedExclusive in
     let is : IsOfBlock (block_of at) mine = restated_is_of_block (block_of at) (tag_at T board (block_of at)) OwnedExclusive (tag_is_of_block _ (block_of at)) in
     each_block T (bus_on T board (block_of at) bus.Claim mine) (block_of at) b
     (λ i other. bus_apart T board (block_of at) bus.Claim mine i b other is)
     (λ before. bus_alone T board (block_of at) bus.Claim mine is (valid-restated (tag_at T board (block_of at))) none_if_claimed)
     h
 one_owner-tags_on F T (WriteBack board at) b h =
-    let mine : Option Tag = restated (tag_at T board (block_of at)) UnOwned in
+    let mine : Option Tag = restated_tag (tag_at T board (block_of at)) UnOwned in
     let is : IsOfBlock (block_of at) mine = restated_is_of_block (block_of at) (tag_at T board (block_of at)) UnOwned (tag_is_of_block _ (block_of at)) in
     each_block T (bus_on T board (block_of at) bus.WriteBack mine) (block_of at) b
     (λ i other. bus_apart T board (block_of at) bus.WriteBack mine i b other is)
     (bus_written T board (block_of at))
     h
 one_owner-tags_on F T (Refresh board at) b h =
-    let mine : Option Tag = dirtied (tag_at T board (block_of at)) in
+    let mine : Option Tag = dirtied_tag (tag_at T board (block_of at)) in
     let is : IsOfBlock (block_of at) mine = dirtied_is_of_block (block_of at) (tag_at T board (block_of at)) (tag_is_of_block _ (block_of at)) in
     each_block T (with_tag_at T board (block_of at) mine) (block_of at) b
     (λ i other. set_apart T board (block_of at) mine i b other is)

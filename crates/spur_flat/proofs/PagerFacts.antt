@@ -14,7 +14,7 @@ use Rattle.spur_addr.proofs.EntryFacts.{is_leaving-swapped, is_on_swap-resident,
 use Rattle.spur_flat.specs.declared.flat.Flat.{Flat}
 use Rattle.spur_flat.specs.Table.{entry_at, table_words}
 use Rattle.spur_flat.specs.Validity.{AreTables, IsDataFrame, IsDeclared, IsValidFlat, StandsFor}
-use Rattle.spur_flat.specs.Pager.{come_in, entry_place, gone_out, has_frame, is_declared, is_free_frame, loaded, or_zero, position_in, slot_of, with_entry, with_entry_bit, word_of}
+use Rattle.spur_flat.specs.Pager.{come_in, entry_place, gone_out, has_frame, is_declared, is_free_frame, page_loaded, or_zero, position_in, swap_slot_of, with_entry, with_entry_bit, word_of}
 use Rattle.spur_addr.specs.Pages.{page_at, with_page}
 use Rattle.spur_flat.proofs.TableFacts.{MayStand, place_at, place_bounds, some_same, tables-set}
 use Rattle.spur_flat.proofs.WalkFacts.{entry_at-same, tables-same, walk_of-entry}
@@ -50,11 +50,11 @@ chosen false x e h = cc
 
 -- what stands for the page of g
 pub record Stands (F : Flat) (g : ℕ) : Type 0 where
-  pub within : slot_of F g < length F.pages
-  pub is : slice_index F.pages (slot_of F g) ≡ page_of g
+  pub within : swap_slot_of F g < length F.pages
+  pub is : slice_index F.pages (swap_slot_of F g) ≡ page_of g
   pub there : entry_at F.words (page_of g) ≡ Some (word_of F g)
   pub root : is_valid (slice_index F.words (page_of g / 2 ^ 10)) ≡ true
-  pub stands : StandsFor (slot_of F g) (word_of F g)
+  pub stands : StandsFor (swap_slot_of F g) (word_of F g)
   pub readable : IsTrue (is_readable (word_of F g))
 
 -- a declared page has an entry, which stands for it and is readable
@@ -74,7 +74,7 @@ declared_stands F g ok small declared =
       is = at.is;
       there = there;
       root = both.0;
-      stands = subst (λ (w : ℕ). StandsFor (slot_of F g) w) (sym word) had.stands;
+      stands = subst (λ (w : ℕ). StandsFor (swap_slot_of F g) w) (sym word) had.stands;
       readable = subst (λ (w : ℕ). IsTrue (is_readable w)) both.1 (ok.tables.readable (place_at F.words p) bounds.1);
     }
 
@@ -104,13 +104,13 @@ differ h = cc
 -- ---- another entry
 
 -- a declared page may have any entry that may stand
-pub valid-with_entry : (F : Flat) (g e : ℕ) → IsValidFlat F → g < 2 ^ 38 → is_declared F g ≡ true → MayStand F.words F.tables F.frames (slot_of F g) (page_of g) e
+pub valid-with_entry : (F : Flat) (g e : ℕ) → IsValidFlat F → g < 2 ^ 38 → is_declared F g ≡ true → MayStand F.words F.tables F.frames (swap_slot_of F g) (page_of g) e
     → IsValidFlat (with_entry F g e)
 valid-with_entry F g e ok small declared may =
     let has = declared_stands F g ok small declared in
     let words : length F.words ≡ 1024 * (64 + F.tables + F.frames) = ok.words in
     let tables : AreTables (slice_set F.words (place_at F.words (page_of g)) e) F.pages F.tables F.frames =
-    tables-set F.words F.pages F.tables F.frames (slot_of F g) (page_of g) e ok.tables ok.pages has.within has.is (omega arith) (omega arith) has.root may in
+    tables-set F.words F.pages F.tables F.frames (swap_slot_of F g) (page_of g) e ok.tables ok.pages has.within has.is (omega arith) (omega arith) has.root may in
     record {
       words = length-set F.words (entry_place F g) e ∙ ok.words;
       swap = ok.swap;
@@ -191,7 +191,7 @@ pub length-with_page : (words part : List ℕ) (n : ℕ) → n * 1024 + 1024 ≤
 length-with_page words part n within long = length-paste words (n * 1024) part 1024 within (omega arith)
 
 -- the slot of a declared page is within swap
-pub slot_inside : (F : Flat) (g : ℕ) → IsValidFlat F → g < 2 ^ 38 → is_declared F g ≡ true → slot_of F g * 1024 + 1024 ≤ length F.swap
+pub slot_inside : (F : Flat) (g : ℕ) → IsValidFlat F → g < 2 ^ 38 → is_declared F g ≡ true → swap_slot_of F g * 1024 + 1024 ≤ length F.swap
 slot_inside F g ok small declared =
     let below = (declared_stands F g ok small declared).within in
     let swap : length F.swap ≡ 1024 * length F.pages = ok.swap in
@@ -205,9 +205,9 @@ frame_inside F n ok among =
     omega arith
 
 -- the same, of the numbers that a call is handed
-pub slot_within : (F : Flat) (g slot : ℕ) → IsValidFlat F → g < 2 ^ 38 → is_declared F g ≡ true → slot ≡ slot_of F g → slot * 1024 + 1024 ≤ length F.swap
+pub slot_within : (F : Flat) (g slot : ℕ) → IsValidFlat F → g < 2 ^ 38 → is_declared F g ≡ true → slot ≡ swap_slot_of F g → slot * 1024 + 1024 ≤ length F.swap
 slot_within F g slot ok small declared is =
-    let inside : slot_of F g * 1024 + 1024 ≤ length F.swap = slot_inside F g ok small declared in
+    let inside : swap_slot_of F g * 1024 + 1024 ≤ length F.swap = slot_inside F g ok small declared in
     omega arith
 
 pub frame_within : (F : Flat) (g e n : ℕ) → IsValidFlat F → g < 2 ^ 38 → is_declared F g ≡ true → e ≡ word_of F g → is_valid e ≡ true → n ≡ number_of e → n * 1024 + 1024 ≤ length F.words
@@ -219,14 +219,14 @@ frame_within F g e n ok small declared had valid is =
 
 -- the words of the page's frame in its slot
 abbrev pub written : Flat → ℕ → ℕ → Flat
-written F g e = record F { swap = with_page F.swap (slot_of F g) (page_at F.words (number_of e)) }
+written F g e = record F { swap = with_page F.swap (swap_slot_of F g) (page_at F.words (number_of e)) }
 
 -- a flat state with the page saved is valid
 pub valid-written : (F : Flat) (g : ℕ) → IsValidFlat F → g < 2 ^ 38 → is_declared F g ≡ true → is_valid (word_of F g) ≡ true → IsValidFlat (written F g (word_of F g))
 valid-written F g ok small declared valid =
     let n : ℕ = number_of (word_of F g) in
     let here : n * 1024 + 1024 ≤ length F.words = frame_inside F n ok (frame_of F g ok small declared valid) in
-    valid-with_swap F _ ok (length-with_page F.swap (page_at F.words n) (slot_of F g) (slot_inside F g ok small declared) (page_long F.words n here))
+    valid-with_swap F _ ok (length-with_page F.swap (page_at F.words n) (swap_slot_of F g) (slot_inside F g ok small declared) (page_long F.words n here))
 
 -- an entry on swap may stand, where it is in the page's slot
 may_be_swapped : (words : List ℕ) (tables frames i p : ℕ) (protection : Protection) → MayStand words tables frames i p (swapped_of i protection)
@@ -245,15 +245,15 @@ may_be_swapped words tables frames i p protection =
     }
 
 -- a declared page may go to its slot, whatever entry it has
-valid_swapped : (F : Flat) (g : ℕ) (protection : Protection) → IsValidFlat F → g < 2 ^ 38 → is_declared F g ≡ true → IsValidFlat (with_entry F g (swapped_of (slot_of F g) protection))
+valid_swapped : (F : Flat) (g : ℕ) (protection : Protection) → IsValidFlat F → g < 2 ^ 38 → is_declared F g ≡ true → IsValidFlat (with_entry F g (swapped_of (swap_slot_of F g) protection))
 valid_swapped F g protection ok small declared =
-    valid-with_entry F g (swapped_of (slot_of F g) protection) ok small declared (may_be_swapped F.words F.tables F.frames (slot_of F g) (page_of g) protection)
+    valid-with_entry F g (swapped_of (swap_slot_of F g) protection) ok small declared (may_be_swapped F.words F.tables F.frames (swap_slot_of F g) (page_of g) protection)
 
 -- so is one that the page has gone out of
 pub valid-gone_out : (F : Flat) (g : ℕ) → IsValidFlat F → g < 2 ^ 38 → is_declared F g ≡ true → is_valid (word_of F g) ≡ true → IsValidFlat (gone_out F g (word_of F g))
 valid-gone_out F g ok small declared valid =
     let protection : Protection = protection_of (word_of F g) in
-    either (λ (G : Flat). IsValidFlat (with_entry G g (swapped_of (slot_of F g) protection))) (is_dirty (word_of F g)) (written F g (word_of F g)) F
+    either (λ (G : Flat). IsValidFlat (with_entry G g (swapped_of (swap_slot_of F g) protection))) (is_dirty (word_of F g)) (written F g (word_of F g)) F
     (valid_swapped (written F g (word_of F g)) g protection (valid-written F g ok small declared valid) small declared)
     (valid_swapped F g protection ok small declared)
 
@@ -293,22 +293,22 @@ before_part words part n k before within =
     ∙ get_or-take (n * 1024) words k 0 before
 
 -- a data frame's words stand past the tables
-pub loaded_same : (F : Flat) (g frame : ℕ) → IsValidFlat F → IsDataFrame F.tables F.frames frame → (k : ℕ) → k < table_words F.tables → slice_index (loaded F g frame).words k ≡ slice_index F.words k
+pub loaded_same : (F : Flat) (g frame : ℕ) → IsValidFlat F → IsDataFrame F.tables F.frames frame → (k : ℕ) → k < table_words F.tables → slice_index (page_loaded F g frame).words k ≡ slice_index F.words k
 loaded_same F g frame ok among k below =
     let low = among.low in
-    before_part F.words (page_at F.swap (slot_of F g)) frame k (omega arith) (frame_inside F frame ok among)
+    before_part F.words (page_at F.swap (swap_slot_of F g)) frame k (omega arith) (frame_inside F frame ok among)
 
--- so a free frame may be loaded
-pub valid-loaded : (F : Flat) (g frame : ℕ) → IsValidFlat F → g < 2 ^ 38 → is_declared F g ≡ true → is_free_frame F frame ≡ true → IsValidFlat (loaded F g frame)
+-- so a free frame may be page_loaded
+pub valid-loaded : (F : Flat) (g frame : ℕ) → IsValidFlat F → g < 2 ^ 38 → is_declared F g ≡ true → is_free_frame F frame ≡ true → IsValidFlat (page_loaded F g frame)
 valid-loaded F g frame ok small declared free =
     let among = (free_frame F frame free).among in
     record {
-      words = length-with_page F.words (page_at F.swap (slot_of F g)) frame (frame_inside F frame ok among) (page_long F.swap (slot_of F g) (slot_inside F g ok small declared)) ∙ ok.words;
+      words = length-with_page F.words (page_at F.swap (swap_slot_of F g)) frame (frame_inside F frame ok among) (page_long F.swap (swap_slot_of F g) (slot_inside F g ok small declared)) ∙ ok.words;
       swap = ok.swap;
       few_frames = ok.few_frames;
       few_pages = ok.few_pages;
       pages = ok.pages;
-      tables = tables-same F.words (loaded F g frame).words F.pages F.tables F.frames ok.tables ok.pages.small (loaded_same F g frame ok among);
+      tables = tables-same F.words (page_loaded F g frame).words F.pages F.tables F.frames ok.tables ok.pages.small (loaded_same F g frame ok among);
     }
 
 -- a valid entry of a free frame there is none
@@ -329,7 +329,7 @@ valid-come_in F g frame ok small declared free =
     let protection : Protection = protection_of (word_of F g) in
     let e : ℕ = resident_of frame protection in
     let is_free = free_frame F frame free in
-    let G : Flat = loaded F g frame in
+    let G : Flat = page_loaded F g frame in
     let n : number_of e ≡ frame = number_of-resident frame protection in
     let kept : (q : ℕ) → q < 2 ^ 26 → entry_at G.words q ≡ entry_at F.words q =
     entry_at-same F.words G.words F.pages F.tables F.frames ok.tables (loaded_same F g frame ok is_free.among) in

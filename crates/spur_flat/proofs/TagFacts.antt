@@ -6,7 +6,7 @@ use Rattle.spur_flat.specs.declared.flat.Flat.{Flat}
 use Rattle.spur_flat.specs.declared.tag.Tag.{Tag}
 use Rattle.spur_flat.specs.declared.entry.Entry.{Entry}
 use Rattle.spur_flat.specs.declared.entry.Entry.TheVariants.{Load, Store, Tas, Fault, Fill, Claim, WriteBack, Refresh, BlockFlush, Leave, PageOut, PageIn, SetRef, SetDirty, ClearRef}
-use Rattle.spur_flat.specs.TagLines.{each_from, lines_at, seen, tags_on, with_tag}
+use Rattle.spur_flat.specs.TagLines.{each_from, lines_at, snooped_board, tags_on, with_tag}
 
 length-each_from : {X : Type 0} (f : ℕ → X → X) (k : ℕ) (xs : List X) → length (each_from f k xs) ≡ length xs
 length-each_from f k [] = refl
@@ -17,9 +17,9 @@ length_tags_on F T (Load board at value) = refl
 length_tags_on F T (Store board at value) = refl
 length_tags_on F T (Tas board at old) = refl
 length_tags_on F T (Fault board kind access at) = refl
-length_tags_on F T (Fill board layer need at) = length-each_from (seen board (block_of at) _ _) 0 T
-length_tags_on F T (Claim board at) = length-each_from (seen board (block_of at) _ _) 0 T
-length_tags_on F T (WriteBack board at) = length-each_from (seen board (block_of at) _ _) 0 T
+length_tags_on F T (Fill board layer need at) = length-each_from (snooped_board board (block_of at) _ _) 0 T
+length_tags_on F T (Claim board at) = length-each_from (snooped_board board (block_of at) _ _) 0 T
+length_tags_on F T (WriteBack board at) = length-each_from (snooped_board board (block_of at) _ _) 0 T
 length_tags_on F T (Refresh board at) = length-set T board (with_tag (lines_at T board) (block_of at) _)
 length_tags_on F T (BlockFlush board holder at) = length-set T holder (with_tag (lines_at T holder) (block_of at) _)
 length_tags_on F T (Leave board at) = refl

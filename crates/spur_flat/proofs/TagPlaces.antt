@@ -7,7 +7,7 @@ use Rattle.spur_snoop.specs.declared.BlockState.TheVariants.{Invalid, UnOwned, O
 use Rattle.spur_snoop.specs.declared.BusKind.{BusKind}
 use Rattle.spur_snoop.specs.Protocol.{snooped_of}
 use Rattle.spur_flat.specs.declared.tag.Tag.{Tag}
-use Rattle.spur_flat.specs.TagLines.{IsOfBlock, bus_on, each_from, in_state, joined, lines_at, no_tags, of_block, seen, slot_of, standing, tag_at, tag_in, told, told_tag, with_tag, with_tag_at}
+use Rattle.spur_flat.specs.TagLines.{IsOfBlock, bus_on, each_from, tag_in_state, joined, lines_at, no_tags, of_block, snooped_board, tag_index, standing_tag, tag_at, tag_in, snooped_tags, snooped_tag, with_tag, with_tag_at}
 
 -- a member that was put in a list stands there, where there is such a place
 get_set_same : {X : Type 0} (xs : List X) (i : ℕ) (y : X) → (slice_get (slice_set xs i y) i ≡ Some y) ⊎ (slice_get (slice_set xs i y) i ≡ None)
@@ -33,7 +33,7 @@ get_each {X} f k (x ∷ xs) (suc i) d = later (get_each f (k + 1) xs i d) where
 
 -- the tag of a block is of that block
 pub tag_is_of_block : (lines : List (Option Tag)) (block : ℕ) → IsOfBlock block (tag_in lines block)
-tag_is_of_block lines block = of_what (standing lines block) where
+tag_is_of_block lines block = of_what (standing_tag lines block) where
   by_test : (t : Tag) (b : Bool) → (t.block == block) ≡ b → IsOfBlock block (if b then Some t else None)
   by_test t true e = eqb-true t.block block e
   by_test t false e = tt
@@ -51,92 +51,92 @@ of_other b block None other is = refl
 of_other b block (Some t) other is = ap (λ (c : Bool). if c then Some t else None) (ne_eqb t.block b (λ e. other (sym e ∙ is)))
 
 -- the place of a block is the same where a tag was put
-standing-with_tag : (lines : List (Option Tag)) (block b : ℕ) (tag : Option Tag) → standing (with_tag lines block tag) b ≡ joined (slice_get (slice_set lines (slot_of lines block) tag) (slot_of lines b))
-standing-with_tag lines block b tag = ap (λ (n : ℕ). joined (slice_get (slice_set lines (slot_of lines block) tag) (b % n))) (length-set lines (slot_of lines block) tag)
+standing-with_tag : (lines : List (Option Tag)) (block b : ℕ) (tag : Option Tag) → standing_tag (with_tag lines block tag) b ≡ joined (slice_get (slice_set lines (tag_index lines block) tag) (tag_index lines b))
+standing-with_tag lines block b tag = ap (λ (n : ℕ). joined (slice_get (slice_set lines (tag_index lines block) tag) (b % n))) (length-set lines (tag_index lines block) tag)
 
 -- a tag of a block that was put on its place is the block's, where there is a place
 pub put_here : (lines : List (Option Tag)) (block : ℕ) (tag : Option Tag) → IsOfBlock block tag → (tag_in (with_tag lines block tag) block ≡ None) ⊎ (tag_in (with_tag lines block tag) block ≡ tag)
-put_here lines block tag is = by_place (get_set_same lines (slot_of lines block) tag) where
-  place : tag_in (with_tag lines block tag) block ≡ of_block block (joined (slice_get (slice_set lines (slot_of lines block) tag) (slot_of lines block)))
+put_here lines block tag is = by_place (get_set_same lines (tag_index lines block) tag) where
+  place : tag_in (with_tag lines block tag) block ≡ of_block block (joined (slice_get (slice_set lines (tag_index lines block) tag) (tag_index lines block)))
   place = ap (of_block block) (standing-with_tag lines block block tag)
 
-  by_place : (slice_get (slice_set lines (slot_of lines block) tag) (slot_of lines block) ≡ Some tag) ⊎ (slice_get (slice_set lines (slot_of lines block) tag) (slot_of lines block) ≡ None) → (tag_in (with_tag lines block tag) block ≡ None) ⊎ (tag_in (with_tag lines block tag) block ≡ tag)
+  by_place : (slice_get (slice_set lines (tag_index lines block) tag) (tag_index lines block) ≡ Some tag) ⊎ (slice_get (slice_set lines (tag_index lines block) tag) (tag_index lines block) ≡ None) → (tag_in (with_tag lines block tag) block ≡ None) ⊎ (tag_in (with_tag lines block tag) block ≡ tag)
   by_place (inl e) = inr (place ∙ ap (λ (o : Option (Option Tag)). of_block block (joined o)) e ∙ of_same block tag is)
   by_place (inr e) = inl (place ∙ ap (λ (o : Option (Option Tag)). of_block block (joined o)) e)
 
 -- another block's tag is gone, or the same
 pub put_apart : (lines : List (Option Tag)) (block b : ℕ) (tag : Option Tag) → (b ≡ block → ⊥) → IsOfBlock block tag → (tag_in (with_tag lines block tag) b ≡ None) ⊎ (tag_in (with_tag lines block tag) b ≡ tag_in lines b)
-put_apart lines block b tag other is = by_slot (cases_eq (slot_of lines b) (slot_of lines block)) where
-  place : tag_in (with_tag lines block tag) b ≡ of_block b (joined (slice_get (slice_set lines (slot_of lines block) tag) (slot_of lines b)))
+put_apart lines block b tag other is = by_slot (cases_eq (tag_index lines b) (tag_index lines block)) where
+  place : tag_in (with_tag lines block tag) b ≡ of_block b (joined (slice_get (slice_set lines (tag_index lines block) tag) (tag_index lines b)))
   place = ap (of_block b) (standing-with_tag lines block b tag)
 
-  by_place : slot_of lines b ≡ slot_of lines block → (slice_get (slice_set lines (slot_of lines block) tag) (slot_of lines block) ≡ Some tag) ⊎ (slice_get (slice_set lines (slot_of lines block) tag) (slot_of lines block) ≡ None) → tag_in (with_tag lines block tag) b ≡ None
-  by_place same (inl e) = place ∙ ap (λ (n : ℕ). of_block b (joined (slice_get (slice_set lines (slot_of lines block) tag) n))) same ∙ ap (λ (o : Option (Option Tag)). of_block b (joined o)) e ∙ of_other b block tag other is
-  by_place same (inr e) = place ∙ ap (λ (n : ℕ). of_block b (joined (slice_get (slice_set lines (slot_of lines block) tag) n))) same ∙ ap (λ (o : Option (Option Tag)). of_block b (joined o)) e
+  by_place : tag_index lines b ≡ tag_index lines block → (slice_get (slice_set lines (tag_index lines block) tag) (tag_index lines block) ≡ Some tag) ⊎ (slice_get (slice_set lines (tag_index lines block) tag) (tag_index lines block) ≡ None) → tag_in (with_tag lines block tag) b ≡ None
+  by_place same (inl e) = place ∙ ap (λ (n : ℕ). of_block b (joined (slice_get (slice_set lines (tag_index lines block) tag) n))) same ∙ ap (λ (o : Option (Option Tag)). of_block b (joined o)) e ∙ of_other b block tag other is
+  by_place same (inr e) = place ∙ ap (λ (n : ℕ). of_block b (joined (slice_get (slice_set lines (tag_index lines block) tag) n))) same ∙ ap (λ (o : Option (Option Tag)). of_block b (joined o)) e
 
-  by_slot : (slot_of lines b ≡ slot_of lines block) ⊎ (slot_of lines b ≡ slot_of lines block → ⊥) → (tag_in (with_tag lines block tag) b ≡ None) ⊎ (tag_in (with_tag lines block tag) b ≡ tag_in lines b)
-  by_slot (inl same) = inl (by_place same (get_set_same lines (slot_of lines block) tag))
-  by_slot (inr apart) = inr (place ∙ ap (λ (o : Option (Option Tag)). of_block b (joined o)) (get_set_other lines (slot_of lines block) (slot_of lines b) tag apart))
+  by_slot : (tag_index lines b ≡ tag_index lines block) ⊎ (tag_index lines b ≡ tag_index lines block → ⊥) → (tag_in (with_tag lines block tag) b ≡ None) ⊎ (tag_in (with_tag lines block tag) b ≡ tag_in lines b)
+  by_slot (inl same) = inl (by_place same (get_set_same lines (tag_index lines block) tag))
+  by_slot (inr apart) = inr (place ∙ ap (λ (o : Option (Option Tag)). of_block b (joined o)) (get_set_other lines (tag_index lines block) (tag_index lines b) tag apart))
 
 -- how a board's tag of a block moves in a transaction on the block: it is gone, it is the one that the board put there, or
 -- it saw the transaction
 pub data Moves (own : ℕ) (kind : BusKind) (mine : Option Tag) (board : ℕ) (before after : Option Tag) : Type 0 where
   Gone : after ≡ None → Moves own kind mine board before after
   Put : board ≡ own → after ≡ mine → Moves own kind mine board before after
-  Saw : (t : Tag) → before ≡ Some t → after ≡ in_state (snooped_of t.state kind) t → Moves own kind mine board before after
+  Saw : (t : Tag) → before ≡ Some t → after ≡ tag_in_state (snooped_of t.state kind) t → Moves own kind mine board before after
 
-of_in_state : (s : BlockState) (t : Tag) (block : ℕ) → t.block ≡ block → IsOfBlock block (in_state s t)
+of_in_state : (s : BlockState) (t : Tag) (block : ℕ) → t.block ≡ block → IsOfBlock block (tag_in_state s t)
 of_in_state Invalid t block is = tt
 of_in_state UnOwned t block is = is
 of_in_state OwnedNonExclusive t block is = is
 of_in_state OwnedExclusive t block is = is
 
-told_here : (own : ℕ) (kind : BusKind) (mine : Option Tag) (board : ℕ) (lines : List (Option Tag)) (block : ℕ) → Moves own kind mine board (tag_in lines block) (tag_in (told lines block kind) block)
+told_here : (own : ℕ) (kind : BusKind) (mine : Option Tag) (board : ℕ) (lines : List (Option Tag)) (block : ℕ) → Moves own kind mine board (tag_in lines block) (tag_in (snooped_tags lines block kind) block)
 told_here own kind mine board lines block = by_tag (tag_in lines block) refl (tag_is_of_block lines block) where
-  by_put : (t : Tag) → tag_in lines block ≡ Some t → (tag_in (told_tag lines block kind (Some t)) block ≡ None) ⊎ (tag_in (told_tag lines block kind (Some t)) block ≡ in_state (snooped_of t.state kind) t) → Moves own kind mine board (tag_in lines block) (tag_in (told_tag lines block kind (Some t)) block)
+  by_put : (t : Tag) → tag_in lines block ≡ Some t → (tag_in (snooped_tag lines block kind (Some t)) block ≡ None) ⊎ (tag_in (snooped_tag lines block kind (Some t)) block ≡ tag_in_state (snooped_of t.state kind) t) → Moves own kind mine board (tag_in lines block) (tag_in (snooped_tag lines block kind (Some t)) block)
   by_put t e (inl gone) = Gone gone
   by_put t e (inr saw) = Saw t e saw
 
-  by_tag : (o : Option Tag) → tag_in lines block ≡ o → IsOfBlock block o → Moves own kind mine board (tag_in lines block) (tag_in (told_tag lines block kind o) block)
+  by_tag : (o : Option Tag) → tag_in lines block ≡ o → IsOfBlock block o → Moves own kind mine board (tag_in lines block) (tag_in (snooped_tag lines block kind o) block)
   by_tag None e is = Gone e
-  by_tag (Some t) e is = by_put t e (put_here lines block (in_state (snooped_of t.state kind) t) (of_in_state (snooped_of t.state kind) t block is))
+  by_tag (Some t) e is = by_put t e (put_here lines block (tag_in_state (snooped_of t.state kind) t) (of_in_state (snooped_of t.state kind) t block is))
 
-told_apart : (lines : List (Option Tag)) (block b : ℕ) (kind : BusKind) → (b ≡ block → ⊥) → (tag_in (told lines block kind) b ≡ None) ⊎ (tag_in (told lines block kind) b ≡ tag_in lines b)
+told_apart : (lines : List (Option Tag)) (block b : ℕ) (kind : BusKind) → (b ≡ block → ⊥) → (tag_in (snooped_tags lines block kind) b ≡ None) ⊎ (tag_in (snooped_tags lines block kind) b ≡ tag_in lines b)
 told_apart lines block b kind other = by_tag (tag_in lines block) (tag_is_of_block lines block) where
-  by_tag : (o : Option Tag) → IsOfBlock block o → (tag_in (told_tag lines block kind o) b ≡ None) ⊎ (tag_in (told_tag lines block kind o) b ≡ tag_in lines b)
+  by_tag : (o : Option Tag) → IsOfBlock block o → (tag_in (snooped_tag lines block kind o) b ≡ None) ⊎ (tag_in (snooped_tag lines block kind o) b ≡ tag_in lines b)
   by_tag None is = inr refl
-  by_tag (Some t) is = put_apart lines block b (in_state (snooped_of t.state kind) t) other (of_in_state (snooped_of t.state kind) t block is)
+  by_tag (Some t) is = put_apart lines block b (tag_in_state (snooped_of t.state kind) t) other (of_in_state (snooped_of t.state kind) t block is)
 
-seen_here : (own : ℕ) (kind : BusKind) (mine : Option Tag) (board : ℕ) (lines : List (Option Tag)) (block : ℕ) → IsOfBlock block mine → Moves own kind mine board (tag_in lines block) (tag_in (seen own block kind mine board lines) block)
+seen_here : (own : ℕ) (kind : BusKind) (mine : Option Tag) (board : ℕ) (lines : List (Option Tag)) (block : ℕ) → IsOfBlock block mine → Moves own kind mine board (tag_in lines block) (tag_in (snooped_board own block kind mine board lines) block)
 seen_here own kind mine board lines block is = by_board (board == own) refl where
   by_put : board ≡ own → (tag_in (with_tag lines block mine) block ≡ None) ⊎ (tag_in (with_tag lines block mine) block ≡ mine) → Moves own kind mine board (tag_in lines block) (tag_in (with_tag lines block mine) block)
   by_put at (inl gone) = Gone gone
   by_put at (inr put) = Put at put
 
-  by_board : (b : Bool) → (board == own) ≡ b → Moves own kind mine board (tag_in lines block) (tag_in (if b then with_tag lines block mine else told lines block kind) block)
+  by_board : (b : Bool) → (board == own) ≡ b → Moves own kind mine board (tag_in lines block) (tag_in (if b then with_tag lines block mine else snooped_tags lines block kind) block)
   by_board true at = by_put (eqb-true board own at) (put_here lines block mine is)
   by_board false at = told_here own kind mine board lines block
 
-seen_apart : (own : ℕ) (kind : BusKind) (mine : Option Tag) (board : ℕ) (lines : List (Option Tag)) (block b : ℕ) → (b ≡ block → ⊥) → IsOfBlock block mine → (tag_in (seen own block kind mine board lines) b ≡ None) ⊎ (tag_in (seen own block kind mine board lines) b ≡ tag_in lines b)
+seen_apart : (own : ℕ) (kind : BusKind) (mine : Option Tag) (board : ℕ) (lines : List (Option Tag)) (block b : ℕ) → (b ≡ block → ⊥) → IsOfBlock block mine → (tag_in (snooped_board own block kind mine board lines) b ≡ None) ⊎ (tag_in (snooped_board own block kind mine board lines) b ≡ tag_in lines b)
 seen_apart own kind mine board lines block b other is = by_board (board == own) where
-  by_board : (c : Bool) → (tag_in (if c then with_tag lines block mine else told lines block kind) b ≡ None) ⊎ (tag_in (if c then with_tag lines block mine else told lines block kind) b ≡ tag_in lines b)
+  by_board : (c : Bool) → (tag_in (if c then with_tag lines block mine else snooped_tags lines block kind) b ≡ None) ⊎ (tag_in (if c then with_tag lines block mine else snooped_tags lines block kind) b ≡ tag_in lines b)
   by_board true = put_apart lines block b mine other is
   by_board false = told_apart lines block b kind other
 
 -- each board's tag of a block after a transaction on it
 pub bus_here : (T : List (List (Option Tag))) (own block : ℕ) (kind : BusKind) (mine : Option Tag) (board : ℕ) → IsOfBlock block mine → Moves own kind mine board (tag_at T board block) (tag_at (bus_on T own block kind mine) board block)
-bus_here T own block kind mine board is = by_lines (get_each (seen own block kind mine) 0 T board []) where
+bus_here T own block kind mine board is = by_lines (get_each (snooped_board own block kind mine) 0 T board []) where
   same : 0 + board ≡ board
   same = omega arith
 
-  by_lines : (lines_at (bus_on T own block kind mine) board ≡ seen own block kind mine (0 + board) (lines_at T board)) ⊎ (lines_at (bus_on T own block kind mine) board ≡ []) → Moves own kind mine board (tag_at T board block) (tag_at (bus_on T own block kind mine) board block)
-  by_lines (inl e) = subst (λ (lines : List (Option Tag)). Moves own kind mine board (tag_at T board block) (tag_in lines block)) (sym (e ∙ ap (λ (k : ℕ). seen own block kind mine k (lines_at T board)) same)) (seen_here own kind mine board (lines_at T board) block is)
+  by_lines : (lines_at (bus_on T own block kind mine) board ≡ snooped_board own block kind mine (0 + board) (lines_at T board)) ⊎ (lines_at (bus_on T own block kind mine) board ≡ []) → Moves own kind mine board (tag_at T board block) (tag_at (bus_on T own block kind mine) board block)
+  by_lines (inl e) = subst (λ (lines : List (Option Tag)). Moves own kind mine board (tag_at T board block) (tag_in lines block)) (sym (e ∙ ap (λ (k : ℕ). snooped_board own block kind mine k (lines_at T board)) same)) (seen_here own kind mine board (lines_at T board) block is)
   by_lines (inr e) = Gone (ap (λ (lines : List (Option Tag)). tag_in lines block) e)
 
 -- and of another block: it is gone, or the same
 pub bus_apart : (T : List (List (Option Tag))) (own block : ℕ) (kind : BusKind) (mine : Option Tag) (board b : ℕ) → (b ≡ block → ⊥) → IsOfBlock block mine → (tag_at (bus_on T own block kind mine) board b ≡ None) ⊎ (tag_at (bus_on T own block kind mine) board b ≡ tag_at T board b)
-bus_apart T own block kind mine board b other is = by_lines (get_each (seen own block kind mine) 0 T board []) where
-  by_lines : (lines_at (bus_on T own block kind mine) board ≡ seen own block kind mine (0 + board) (lines_at T board)) ⊎ (lines_at (bus_on T own block kind mine) board ≡ []) → (tag_at (bus_on T own block kind mine) board b ≡ None) ⊎ (tag_at (bus_on T own block kind mine) board b ≡ tag_at T board b)
+bus_apart T own block kind mine board b other is = by_lines (get_each (snooped_board own block kind mine) 0 T board []) where
+  by_lines : (lines_at (bus_on T own block kind mine) board ≡ snooped_board own block kind mine (0 + board) (lines_at T board)) ⊎ (lines_at (bus_on T own block kind mine) board ≡ []) → (tag_at (bus_on T own block kind mine) board b ≡ None) ⊎ (tag_at (bus_on T own block kind mine) board b ≡ tag_at T board b)
   by_lines (inl e) = subst (λ (lines : List (Option Tag)). (tag_in lines b ≡ None) ⊎ (tag_in lines b ≡ tag_at T board b)) (sym e) (seen_apart own kind mine (0 + board) (lines_at T board) block b other is)
   by_lines (inr e) = inl (ap (λ (lines : List (Option Tag)). tag_in lines b) e)
 
@@ -185,5 +185,5 @@ none_at boards lines board block = by_boards boards board where
 
   by_boards : (n k : ℕ) → tag_in (get_or (replicate n (replicate lines None)) k []) block ≡ None
   by_boards zero k = refl
-  by_boards (suc n) zero = ap (of_block block) (no_line lines (slot_of (replicate lines None) block))
+  by_boards (suc n) zero = ap (of_block block) (no_line lines (tag_index (replicate lines None) block))
   by_boards (suc n) (suc k) = by_boards n k

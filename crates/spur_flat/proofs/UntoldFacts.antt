@@ -26,14 +26,14 @@ use Rattle.spur_flat.specs.declared.entry.Entry.TheVariants.{Load, Store, Tas, F
 use Rattle.spur_flat.specs.Access.{may}
 use Rattle.spur_flat.specs.Table.{table_words, walk_of, place_in, place_of}
 use Rattle.spur_flat.specs.Validity.{IsDataFrame, IsValidFlat}
-use Rattle.spur_flat.specs.Pager.{word_of, is_declared, has_frame, is_free_frame, MayPage, may_come_in, may_go_out, entry_place, position_in, slot_of, with_entry, with_entry_bit, saved, gone_out, loaded, come_in}
+use Rattle.spur_flat.specs.Pager.{word_of, is_declared, has_frame, is_free_frame, MayPage, may_come_in, may_go_out, entry_place, position_in, swap_slot_of, with_entry, with_entry_bit, saved, gone_out, page_loaded, come_in}
 use Rattle.spur_addr.specs.Pages.{page_at, with_page}
 use Rattle.spur_flat.specs.Pager as pager
-use Rattle.spur_flat.specs.History.{on, with_word}
+use Rattle.spur_flat.specs.History.{on, with_word_at}
 use Rattle.spur_flat.specs.Laws.{address_of}
 use Rattle.spur_flat.specs.Blocks.{entry_block, root_word_of, layer_of, is_layer}
-use Rattle.spur_flat.specs.TagLines.{fresh_tag, filled_state, kind_of, bus_on, state_of, standing, tag_at, lines_at}
-use Rattle.spur_flat.specs.TagRules.{held, state_number, may_fill, table_refusal, refresh_refusal, flush_refusal, entry_state}
+use Rattle.spur_flat.specs.TagLines.{fresh_tag, filled_state, kind_of, bus_on, block_state, standing_tag, tag_at, lines_at}
+use Rattle.spur_flat.specs.TagRules.{tag_condition, state_number, may_fill, table_refusal, refresh_refusal, flush_refusal, entry_state}
 use Rattle.spur_flat.specs.State.{State, IsTagged, step, state_after, AllFollow, tags_after}
 use Rattle.spur_flat.specs.Untold.{IsLike, LeadsUntold}
 use Rattle.spur_flat.specs.UntoldLaws.{IsTaggedAlike, LikeIsTaggedAlike, LikeIsAllowedButValue, StepIsLike, UntoldWhereTold}
@@ -51,7 +51,7 @@ take_set n xs ys place value same =
     (cases_lt place n)
 
 -- so a word that is put at a place of both keeps them alike
-like_with_word : (F other : Flat) (place value : ℕ) → IsLike F other → IsLike (with_word F place value) (with_word other place value)
+like_with_word : (F other : Flat) (place value : ℕ) → IsLike F other → IsLike (with_word_at F place value) (with_word_at other place value)
 like_with_word F other place value like = record {
   pages = like.pages;
   tables = like.tables;
@@ -62,10 +62,10 @@ like_with_word F other place value like = record {
 }
 
 -- where the place and the word are the same by two equations
-like_written : (F other : Flat) (place there value word : ℕ) → IsLike F other → place ≡ there → value ≡ word → IsLike (with_word F place value) (with_word other there word)
+like_written : (F other : Flat) (place there value word : ℕ) → IsLike F other → place ≡ there → value ≡ word → IsLike (with_word_at F place value) (with_word_at other there word)
 like_written F other place there value word like at is =
-    subst (λ (p : ℕ). IsLike (with_word F p value) (with_word other there word)) (sym at)
-    (subst (λ (v : ℕ). IsLike (with_word F there v) (with_word other there word)) (sym is) (like_with_word F other there word like))
+    subst (λ (p : ℕ). IsLike (with_word_at F p value) (with_word_at other there word)) (sym at)
+    (subst (λ (v : ℕ). IsLike (with_word_at F there v) (with_word_at other there word)) (sym is) (like_with_word F other there word like))
 
 -- another entry for the page of g
 like_with_entry : (F other : Flat) (g value word : ℕ) → IsLike F other → g < 2 ^ 38 → value ≡ word → IsLike (with_entry F g value) (with_entry other g word)
@@ -77,7 +77,7 @@ like_with_bit F other g bit to like ok small =
     like_with_entry F other g (with_bit (word_of F g) bit to) (with_bit (word_of other g) bit to) like small (ap (λ (e : ℕ). with_bit e bit to) (entry_same F other g like ok small))
 
 -- the word of a store or a test-and-set
-like_stored : (F other : Flat) (g value : ℕ) → IsLike F other → IsValidFlat other → g < 2 ^ 38 → IsLike (with_word F (place_of F g) value) (with_word other (place_of other g) value)
+like_stored : (F other : Flat) (g value : ℕ) → IsLike F other → IsValidFlat other → g < 2 ^ 38 → IsLike (with_word_at F (place_of F g) value) (with_word_at other (place_of other g) value)
 like_stored F other g value like ok small =
     like_written F other (place_of F g) (place_of other g) value value like (ap (λ (e : Option ℕ). place_in e g) (walk_same F other g like ok small)) refl
 
@@ -124,21 +124,21 @@ like_either false F G other another here away = away
 -- the page's words in its slot, where it was written
 like_saved : (F other : Flat) (g e : ℕ) → IsLike F other → IsValidFlat other → is_declared other g ≡ true → IsDataFrame other.tables other.frames (number_of e) → IsLike (saved F g e) (saved other g e)
 like_saved F other g e like ok declared frame =
-    let place : slot_of F g ≡ slot_of other g = slot_same F other g like in
-    let below : slot_of other g < length other.pages = position_below other.pages (page_of g) declared in
+    let place : swap_slot_of F g ≡ swap_slot_of other g = slot_same F other g like in
+    let below : swap_slot_of other g < length other.pages = position_below other.pages (page_of g) declared in
     let slots : length F.swap ≡ 1024 * length other.pages = like.swap in
     let words : length F.words ≡ length other.words = like.words in
     let there : length other.words ≡ 1024 * (64 + other.tables + other.frames) = ok.words in
     let high = frame.high in
     let page : List ℕ = page_at F.words (number_of e) in
-    like_either (is_dirty e) (record F { swap = with_page F.swap (slot_of F g) page }) F (record other { swap = with_page other.swap (slot_of other g) (page_at other.words (number_of e)) }) other
+    like_either (is_dirty e) (record F { swap = with_page F.swap (swap_slot_of F g) page }) F (record other { swap = with_page other.swap (swap_slot_of other g) (page_at other.words (number_of e)) }) other
     (record {
       pages = like.pages;
       tables = like.tables;
       frames = like.frames;
       words = like.words;
       table = like.table;
-      swap = page_kept F.swap page (slot_of F g) (omega arith) (page_long F.words (number_of e) (omega arith)) ∙ like.swap;
+      swap = page_kept F.swap page (swap_slot_of F g) (omega arith) (page_long F.words (number_of e) (omega arith)) ∙ like.swap;
     })
     like
 
@@ -148,7 +148,7 @@ like_gone_out F other g like ok small may =
     let e : ℕ = word_of other g in
     let frame : IsDataFrame other.tables other.frames (number_of e) = walked_frame other g (walk_of other g) ok small refl (and_parts (is_valid e) (is_leaving e) may.entry).0 in
     subst (λ (d : ℕ). IsLike (gone_out F g d) (gone_out other g e)) (sym (entry_same F other g like ok small))
-    (like_with_entry (saved F g e) (saved other g e) g (swapped_of (slot_of F g) (protection_of e)) (swapped_of (slot_of other g) (protection_of e))
+    (like_with_entry (saved F g e) (saved other g e) g (swapped_of (swap_slot_of F g) (protection_of e)) (swapped_of (swap_slot_of other g) (protection_of e))
     (like_saved F other g e like ok may.declared frame) small
     (ap (λ (slot : ℕ). swapped_of slot (protection_of e)) (slot_same F other g like)))
 
@@ -160,20 +160,20 @@ free_is_data F frame free =
     record { low = leb-true (64 + F.tables) frame inner.0; high = ltb-true frame (64 + F.tables + F.frames) inner.1 }
 
 -- the slot's words in a frame of the data
-like_loaded : (F other : Flat) (g frame : ℕ) → IsLike F other → IsValidFlat other → is_declared other g ≡ true → IsDataFrame other.tables other.frames frame → IsLike (loaded F g frame) (loaded other g frame)
+like_loaded : (F other : Flat) (g frame : ℕ) → IsLike F other → IsValidFlat other → is_declared other g ≡ true → IsDataFrame other.tables other.frames frame → IsLike (page_loaded F g frame) (page_loaded other g frame)
 like_loaded F other g frame like ok declared data_frame =
-    let place : slot_of F g ≡ slot_of other g = slot_same F other g like in
-    let below : slot_of other g < length other.pages = position_below other.pages (page_of g) declared in
+    let place : swap_slot_of F g ≡ swap_slot_of other g = slot_same F other g like in
+    let below : swap_slot_of other g < length other.pages = position_below other.pages (page_of g) declared in
     let slots : length F.swap ≡ 1024 * length other.pages = like.swap in
     let others : length other.swap ≡ 1024 * length other.pages = ok.swap in
     let words : length F.words ≡ length other.words = like.words in
     let there : length other.words ≡ 1024 * (64 + other.tables + other.frames) = ok.words in
     let low = data_frame.low in
     let high = data_frame.high in
-    let page : List ℕ = page_at F.swap (slot_of F g) in
-    let its : List ℕ = page_at other.swap (slot_of other g) in
-    let long : length page ≡ 1024 = page_long F.swap (slot_of F g) (omega arith) in
-    let as_long : length its ≡ 1024 = page_long other.swap (slot_of other g) (omega arith) in
+    let page : List ℕ = page_at F.swap (swap_slot_of F g) in
+    let its : List ℕ = page_at other.swap (swap_slot_of other g) in
+    let long : length page ≡ 1024 = page_long F.swap (swap_slot_of F g) (omega arith) in
+    let as_long : length its ≡ 1024 = page_long other.swap (swap_slot_of other g) (omega arith) in
     record {
       pages = like.pages;
       tables = like.tables;
@@ -188,7 +188,7 @@ like_loaded F other g frame like ok declared data_frame =
 like_come_in : (F other : Flat) (g frame : ℕ) → IsLike F other → IsValidFlat other → g < 2 ^ 38 → MayPage other g may_come_in → is_free_frame other frame ≡ true
     → IsLike (come_in F g (word_of F g) frame) (come_in other g (word_of other g) frame)
 like_come_in F other g frame like ok small may free =
-    like_with_entry (loaded F g frame) (loaded other g frame) g (resident_of frame (protection_of (word_of F g))) (resident_of frame (protection_of (word_of other g)))
+    like_with_entry (page_loaded F g frame) (page_loaded other g frame) g (resident_of frame (protection_of (word_of F g))) (resident_of frame (protection_of (word_of other g)))
     (like_loaded F other g frame like ok may.declared (free_is_data other frame free)) small
     (ap (λ (e : ℕ). resident_of frame (protection_of e)) (entry_same F other g like ok small))
 
@@ -213,9 +213,9 @@ step-is-like F other (ClearRef board at) like ok small allowed = like_with_bit F
 -- what a fill needs of the tables
 table_alike : (F other : Flat) (of : Layer) (need : Need) (at : ℕ) (above : BlockState) → IsLike F other → IsValidFlat other → at < 2 ^ 38 → table_refusal F of need at above ≡ table_refusal other of need at above
 table_alike F other layer.UserBlock need at above like ok small =
-    ap (λ (e : ℕ). held (is_alive above) 8 (state_number above) (held (may_fill e need) 10 e None)) (entry_same F other at like ok small)
+    ap (λ (e : ℕ). tag_condition (is_alive above) 8 (state_number above) (tag_condition (may_fill e need) 10 e None)) (entry_same F other at like ok small)
 table_alike F other layer.PteBlock need at above like ok small =
-    ap (λ (e : ℕ). held (is_alive above) 9 (state_number above) (held (is_valid e) 11 e None)) (root_same F other (root_word_of at) like (omega arith))
+    ap (λ (e : ℕ). tag_condition (is_alive above) 9 (state_number above) (tag_condition (is_valid e) 11 e None)) (root_same F other (root_word_of at) like (omega arith))
 table_alike F other layer.RootBlock need at above like ok small = refl
 
 -- the tag that a fill gives
@@ -234,10 +234,10 @@ like-is-tagged-alike F other T (Tas board at old) like ok small = record { refus
 like-is-tagged-alike F other T (Fault board kind access at) like ok small = record { refusal = refl; after = refl }
 like-is-tagged-alike F other T (Fill board of need at) like ok small =
     let own : Option Tag = tag_at T board (block_of at) in
-    let there : Option Tag = standing (lines_at T board) (block_of at) in
-    let above : BlockState = state_of (tag_at T board (entry_block at)) in
+    let there : Option Tag = standing_tag (lines_at T board) (block_of at) in
+    let above : BlockState = block_state (tag_at T board (entry_block at)) in
     record {
-      refusal = ap (λ (tables : Option Illegal). held (is_layer (layer_of at) of) 5 0 (held (not (is_alive (state_of own))) 6 (state_number (state_of own)) (held (not (is_owned (state_of there))) 7 (state_number (state_of there)) tables)))
+      refusal = ap (λ (tables : Option Illegal). tag_condition (is_layer (layer_of at) of) 5 0 (tag_condition (not (is_alive (block_state own))) 6 (state_number (block_state own)) (tag_condition (not (is_owned (block_state there))) 7 (state_number (block_state there)) tables)))
           (table_alike F other of need at above like ok small);
       after = ap (λ (tag : Tag). bus_on T board (block_of at) (kind_of need) (Some tag)) (fresh_alike F other of need at like ok small);
     }
@@ -248,7 +248,7 @@ like-is-tagged-alike F other T (Refresh board at) like ok small = record {
   after = refl;
 }
 like-is-tagged-alike F other T (BlockFlush board holder at) like ok small = record {
-  refusal = ap (λ (e : ℕ). flush_refusal e (state_of (tag_at T holder (block_of at)))) (entry_same F other at like ok small);
+  refusal = ap (λ (e : ℕ). flush_refusal e (block_state (tag_at T holder (block_of at)))) (entry_same F other at like ok small);
   after = refl;
 }
 like-is-tagged-alike F other T (Leave board at) like ok small = record { refusal = refl; after = refl }

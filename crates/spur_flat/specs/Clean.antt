@@ -4,7 +4,7 @@ use Rattle.spur_addr.specs.Address.{page_address, user_pages}
 use Rattle.spur_addr.specs.PageEntry.{is_valid, is_dirty, number_of}
 use Rattle.spur_flat.specs.declared.flat.Flat.{Flat}
 use Rattle.spur_flat.specs.declared.entry.Entry.{Entry}
-use Rattle.spur_flat.specs.Pager.{page_at, slot_of, word_of}
+use Rattle.spur_flat.specs.Pager.{page_at, swap_slot_of, word_of}
 use Rattle.spur_flat.specs.Validity.{IsValidFlat}
 use Rattle.spur_flat.specs.History.{on, flat_after, IsAllowed, IsLegal}
 use Rattle.spur_flat.specs.Laws.{address_of}
@@ -13,7 +13,7 @@ use Rattle.spur_flat.specs.Laws.{address_of}
 abbrev pub AreClean : Flat → Type 0
 AreClean F = (page : ℕ) → page < user_pages
     → is_valid (word_of F (page_address page)) ≡ true → is_dirty (word_of F (page_address page)) ≡ false
-    → page_at F.words (number_of (word_of F (page_address page))) ≡ page_at F.swap (slot_of F (page_address page))
+    → page_at F.words (number_of (word_of F (page_address page))) ≡ page_at F.swap (swap_slot_of F (page_address page))
 
 -- an allowed entry of a valid flat state keeps its clean pages clean
 abbrev pub StaysClean : Type 0

@@ -9,16 +9,16 @@ use Rattle.spur_flat.specs.Table.{walk_of, place_of, data_word}
 use Rattle.spur_flat.specs.Pager.{word_of, MayPage, may_leave, may_go_out, may_come_in, may_set_referenced, may_set_dirty, may_clear_referenced, is_free_frame, with_entry_bit, gone_out, come_in}
 
 -- the flat state with another word at a place of memory
-abbrev pub with_word : Flat → ℕ → ℕ → Flat
-with_word F place value = record F { words = slice_set F.words place value }
+abbrev pub with_word_at : Flat → ℕ → ℕ → Flat
+with_word_at F place value = record F { words = slice_set F.words place value }
 
 -- the flat state after an entry: a store puts its value in the place of its word, a test-and-set puts
 -- 1 there; the entries of the pager bring a page in or out, or set or clear one bit of its entry (6 is
 -- leaving, 1 referenced, 2 dirty); loads, faults and the entries of the bus change nothing
 abbrev pub on : Flat → Entry → Flat
 on F (Load board at value) = F
-on F (Store board at value) = with_word F (place_of F at) value
-on F (Tas board at old) = with_word F (place_of F at) 1
+on F (Store board at value) = with_word_at F (place_of F at) value
+on F (Tas board at old) = with_word_at F (place_of F at) 1
 on F (Fault board kind access at) = F
 on F (Fill board layer need at) = F
 on F (Claim board at) = F

@@ -90,20 +90,20 @@ abbrev pub position_in : List ℕ → ℕ → ℕ
 position_in [] page = 0
 position_in (p ∷ ps) page = if p == page then 0 else 1 + position_in ps page
 
-abbrev pub slot_of : Flat → ℕ → ℕ
-slot_of F g = position_in F.pages (page_of g)
+abbrev pub swap_slot_of : Flat → ℕ → ℕ
+swap_slot_of F g = position_in F.pages (page_of g)
 
 -- the words of the page's frame in the page's slot, where the page was written
 abbrev pub saved : Flat → ℕ → ℕ → Flat
-saved F g entry = if is_dirty entry then record F { swap = with_page F.swap (slot_of F g) (page_at F.words (number_of entry)) } else F
+saved F g entry = if is_dirty entry then record F { swap = with_page F.swap (swap_slot_of F g) (page_at F.words (number_of entry)) } else F
 
 -- the page of g, whose entry is this one, goes out: its slot is saved, and its entry is that of a page on swap
 abbrev pub gone_out : Flat → ℕ → ℕ → Flat
-gone_out F g entry = with_entry (saved F g entry) g (swapped_of (slot_of F g) (protection_of entry))
+gone_out F g entry = with_entry (saved F g entry) g (swapped_of (swap_slot_of F g) (protection_of entry))
 
 -- the words of the page's slot in a frame
-abbrev pub loaded : Flat → ℕ → ℕ → Flat
-loaded F g frame = record F { words = with_page F.words frame (page_at F.swap (slot_of F g)) }
+abbrev pub page_loaded : Flat → ℕ → ℕ → Flat
+page_loaded F g frame = record F { words = with_page F.words frame (page_at F.swap (swap_slot_of F g)) }
 
 -- the entry of a page that has just come into a frame, where its entry was this one
 abbrev pub brought_entry : ℕ → ℕ → ℕ
@@ -112,4 +112,4 @@ brought_entry frame entry = resident_of frame (protection_of entry)
 -- the page of g, whose entry is this one, comes in: the frame has the slot's words, and the entry is that of a page
 -- that has just come into the frame
 abbrev pub come_in : Flat → ℕ → ℕ → ℕ → Flat
-come_in F g entry frame = with_entry (loaded F g frame) g (brought_entry frame entry)
+come_in F g entry frame = with_entry (page_loaded F g frame) g (brought_entry frame entry)

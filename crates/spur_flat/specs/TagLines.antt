@@ -25,12 +25,12 @@ joined None = None
 joined (Some tag) = tag
 
 -- the place of a block
-abbrev pub slot_of : List (Option Tag) → ℕ → ℕ
-slot_of lines block = block % length lines
+abbrev pub tag_index : List (Option Tag) → ℕ → ℕ
+tag_index lines block = block % length lines
 
 -- what stands on the place of a block
-abbrev pub standing : List (Option Tag) → ℕ → Option Tag
-standing lines block = joined (slice_get lines (slot_of lines block))
+abbrev pub standing_tag : List (Option Tag) → ℕ → Option Tag
+standing_tag lines block = joined (slice_get lines (tag_index lines block))
 
 -- a tag, where it is that of a block
 abbrev pub of_block : ℕ → Option Tag → Option Tag
@@ -39,7 +39,7 @@ of_block block (Some tag) = if tag.block == block then Some tag else None
 
 -- the tag of a block
 abbrev pub tag_in : List (Option Tag) → ℕ → Option Tag
-tag_in lines block = of_block block (standing lines block)
+tag_in lines block = of_block block (standing_tag lines block)
 
 -- a tag is that of a block, where there is one
 abbrev pub IsOfBlock : ℕ → Option Tag → Type 0
@@ -47,29 +47,29 @@ IsOfBlock block None = ⊤
 IsOfBlock block (Some tag) = tag.block ≡ block
 
 -- the state of a block whose tag this is: Invalid where there is none
-abbrev pub state_of : Option Tag → BlockState
-state_of None = Invalid
-state_of (Some tag) = tag.state
+abbrev pub block_state : Option Tag → BlockState
+block_state None = Invalid
+block_state (Some tag) = tag.state
 
 -- the lines with another tag, or none, on the place of a block
 abbrev pub with_tag : List (Option Tag) → ℕ → Option Tag → List (Option Tag)
-with_tag lines block tag = slice_set lines (slot_of lines block) tag
+with_tag lines block tag = slice_set lines (tag_index lines block) tag
 
 -- a tag in another state: none where it is Invalid
-abbrev pub in_state : BlockState → Tag → Option Tag
-in_state Invalid tag = None
-in_state UnOwned tag = Some (record tag { state = UnOwned })
-in_state OwnedNonExclusive tag = Some (record tag { state = OwnedNonExclusive })
-in_state OwnedExclusive tag = Some (record tag { state = OwnedExclusive })
+abbrev pub tag_in_state : BlockState → Tag → Option Tag
+tag_in_state Invalid tag = None
+tag_in_state UnOwned tag = Some (record tag { state = UnOwned })
+tag_in_state OwnedNonExclusive tag = Some (record tag { state = OwnedNonExclusive })
+tag_in_state OwnedExclusive tag = Some (record tag { state = OwnedExclusive })
 
 -- the lines after another board's transaction on a block whose tag they have this
-abbrev pub told_tag : List (Option Tag) → ℕ → BusKind → Option Tag → List (Option Tag)
-told_tag lines block kind None = lines
-told_tag lines block kind (Some tag) = with_tag lines block (in_state (snooped_of tag.state kind) tag)
+abbrev pub snooped_tag : List (Option Tag) → ℕ → BusKind → Option Tag → List (Option Tag)
+snooped_tag lines block kind None = lines
+snooped_tag lines block kind (Some tag) = with_tag lines block (tag_in_state (snooped_of tag.state kind) tag)
 
 -- the lines after another board's transaction on a block, by the protocol's table
-abbrev pub told : List (Option Tag) → ℕ → BusKind → List (Option Tag)
-told lines block kind = told_tag lines block kind (tag_in lines block)
+abbrev pub snooped_tags : List (Option Tag) → ℕ → BusKind → List (Option Tag)
+snooped_tags lines block kind = snooped_tag lines block kind (tag_in lines block)
 
 -- each value changed by its number
 abbrev pub each_from : {X : Type 0} → (ℕ → X → X) → ℕ → List X → List X
@@ -78,12 +78,12 @@ each_from change k (x ∷ xs) = change k x ∷ each_from change (k + 1) xs
 
 -- board k after a transaction of board `own` on a block: the own board then has `mine` on the block's place, and each
 -- other one sees the table
-abbrev pub seen : ℕ → ℕ → BusKind → Option Tag → ℕ → List (Option Tag) → List (Option Tag)
-seen own block kind mine k lines = if k == own then with_tag lines block mine else told lines block kind
+abbrev pub snooped_board : ℕ → ℕ → BusKind → Option Tag → ℕ → List (Option Tag) → List (Option Tag)
+snooped_board own block kind mine k lines = if k == own then with_tag lines block mine else snooped_tags lines block kind
 
 -- all boards after it
 abbrev pub bus_on : List (List (Option Tag)) → ℕ → ℕ → BusKind → Option Tag → List (List (Option Tag))
-bus_on T own block kind mine = each_from (seen own block kind mine) 0 T
+bus_on T own block kind mine = each_from (snooped_board own block kind mine) 0 T
 
 -- the lines of a board
 abbrev pub lines_at : List (List (Option Tag)) → ℕ → List (Option Tag)
@@ -110,14 +110,14 @@ fresh_tag F layer.PteBlock need at = record { block = block_of at; state = fille
 fresh_tag F layer.RootBlock need at = record { block = block_of at; state = filled_state need; frame = wired_frame at; prot = allow.ReadOnly; dirty = true }
 
 -- a tag with another state that is not Invalid, where there is one
-abbrev pub restated : Option Tag → BlockState → Option Tag
-restated None state = None
-restated (Some tag) state = Some (record tag { state = state })
+abbrev pub restated_tag : Option Tag → BlockState → Option Tag
+restated_tag None state = None
+restated_tag (Some tag) state = Some (record tag { state = state })
 
 -- a tag with its dirty copy set, where there is one
-abbrev pub dirtied : Option Tag → Option Tag
-dirtied None = None
-dirtied (Some tag) = Some (record tag { dirty = true })
+abbrev pub dirtied_tag : Option Tag → Option Tag
+dirtied_tag None = None
+dirtied_tag (Some tag) = Some (record tag { dirty = true })
 
 -- the tags with one board's place of a block changed
 abbrev pub with_tag_at : List (List (Option Tag)) → ℕ → ℕ → Option Tag → List (List (Option Tag))
@@ -130,9 +130,9 @@ tags_on F T (Store board at value) = T
 tags_on F T (Tas board at old) = T
 tags_on F T (Fault board kind access at) = T
 tags_on F T (Fill board layer need at) = bus_on T board (block_of at) (kind_of need) (Some (fresh_tag F layer need at))
-tags_on F T (Claim board at) = bus_on T board (block_of at) bus.Claim (restated (tag_at T board (block_of at)) OwnedExclusive)
-tags_on F T (WriteBack board at) = bus_on T board (block_of at) bus.WriteBack (restated (tag_at T board (block_of at)) UnOwned)
-tags_on F T (Refresh board at) = with_tag_at T board (block_of at) (dirtied (tag_at T board (block_of at)))
+tags_on F T (Claim board at) = bus_on T board (block_of at) bus.Claim (restated_tag (tag_at T board (block_of at)) OwnedExclusive)
+tags_on F T (WriteBack board at) = bus_on T board (block_of at) bus.WriteBack (restated_tag (tag_at T board (block_of at)) UnOwned)
+tags_on F T (Refresh board at) = with_tag_at T board (block_of at) (dirtied_tag (tag_at T board (block_of at)))
 tags_on F T (BlockFlush board holder at) = with_tag_at T holder (block_of at) None
 tags_on F T (Leave board at) = T
 tags_on F T (PageOut board at) = T

@@ -6,7 +6,7 @@ ghost use Rattle.spur_flat.specs.Table.{data_word, place_in, place_of, table_wor
 ghost use Rattle.spur_flat.specs.Validity.{IsValidFlat};
 ghost use Rattle.spur_flat.specs.Refusal.{done_refusal, fault_refusal, read_refusal, refusal_of};
 ghost use Rattle.spur_flat.specs.Refused.{place_or, result_of};
-ghost use Rattle.spur_flat.specs.History.{on, with_word};
+ghost use Rattle.spur_flat.specs.History.{on, with_word_at};
 
 use crate::access::{AccessKind, FaultKind, admit, may_fault, miss};
 use crate::entry::Entry;
@@ -169,7 +169,7 @@ impl Flat {
     fn store(&mut self, at: GlobalAddr, value: u32) -> Result<(), Illegal>
         requires { IsValidFlat self.old }
         ensures exact { result ≡ result_of (done_refusal self.old AccessKind.Store at) }
-        ensures ok { OnOk result (self.new ≡ with_word self.old (place_of self.old at) value) }
+        ensures ok { OnOk result (self.new ≡ with_word_at self.old (place_of self.old at) value) }
         ensures err { OnErr result (self.new ≡ self.old) }
         ensures valid { IsValidFlat self.new }
     {
@@ -182,7 +182,7 @@ impl Flat {
     fn test_and_set(&mut self, at: GlobalAddr, old: u32) -> Result<(), Illegal>
         requires { IsValidFlat self.old }
         ensures exact { result ≡ result_of (read_refusal self.old AccessKind.Tas at old) }
-        ensures ok { OnOk result (self.new ≡ with_word self.old (place_of self.old at) 1) }
+        ensures ok { OnOk result (self.new ≡ with_word_at self.old (place_of self.old at) 1) }
         ensures err { OnErr result (self.new ≡ self.old) }
         ensures valid { IsValidFlat self.new }
     {

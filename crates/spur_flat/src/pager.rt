@@ -5,7 +5,7 @@ ghost use Rattle.std.specs.List.{list_any};
 ghost use Rattle.spur_addr.specs.PageEntry.{is_valid};
 ghost use Rattle.spur_flat.specs.Refused.{result_of, unless};
 ghost use Rattle.spur_flat.specs.Refusal.{in_refusal};
-ghost use Rattle.spur_flat.specs.Pager.{come_in, gone_out, has_frame, is_declared, is_free_frame, loaded, may_clear_referenced, may_come_in, may_go_out, may_leave, may_set_dirty, may_set_referenced, or_zero, paged, position_in, saved, slot_of, with_entry, with_entry_bit, word_of};
+ghost use Rattle.spur_flat.specs.Pager.{come_in, gone_out, has_frame, is_declared, is_free_frame, page_loaded, may_clear_referenced, may_come_in, may_go_out, may_leave, may_set_dirty, may_set_referenced, or_zero, paged, position_in, saved, swap_slot_of, with_entry, with_entry_bit, word_of};
 ghost use Rattle.spur_flat.specs.Validity.{IsValidFlat};
 
 use crate::flat::{Flat, PAGE_WORDS};
@@ -140,8 +140,8 @@ impl Flat {
     fn slot(&self, at: GlobalAddr) -> u32
         requires valid { IsValidFlat self.now }
         requires declared { is_declared self.now at ≡ true }
-        ensures value { result ≡ slot_of self.now at }
-        ensures within { slot_of self.now at < length self.now.pages }
+        ensures value { result ≡ swap_slot_of self.now at }
+        ensures within { swap_slot_of self.now at < length self.now.pages }
         ensures small { at < 2 ^ 38 }
     {
         position(self.pages.as_slice(), at.page()) as u32
@@ -200,7 +200,7 @@ impl Flat {
         requires declared { is_declared self.old at ≡ true }
         requires entry { entry ≡ word_of self.old at }
         requires resident { is_valid entry ≡ true }
-        requires slot { slot ≡ slot_of self.old at }
+        requires slot { slot ≡ swap_slot_of self.old at }
         requires small { at < 2 ^ 38 }
         ensures change { self.new ≡ saved self.old at entry }
         ensures valid { IsValidFlat self.new }
@@ -217,7 +217,7 @@ impl Flat {
         requires valid { IsValidFlat self.old }
         requires declared { is_declared self.old at ≡ true }
         requires free { is_free_frame self.old frame ≡ true }
-        ensures change { self.new ≡ loaded self.old at frame }
+        ensures change { self.new ≡ page_loaded self.old at frame }
         ensures valid { IsValidFlat self.new }
     {
         let from = self.slot(at) as usize * PAGE_WORDS;

@@ -1,8 +1,8 @@
 //! What the cache lines of one board are known to hold.
 
 ghost use Rattle.std.specs.Prelude.{◌≡◌, ◌<◌, IfOk, length, replicate, None};
-ghost use Rattle.spur_flat.specs.TagLines.{in_state, slot_of, standing, tag_in, told, with_tag};
-ghost use Rattle.spur_flat.specs.TagRules.{holds_page, is_of_page};
+ghost use Rattle.spur_flat.specs.TagLines.{tag_in_state, tag_index, standing_tag, tag_in, snooped_tags, with_tag};
+ghost use Rattle.spur_flat.specs.TagRules.{holds_page, is_tag_of_page};
 
 use crate::tag::Tag;
 use spur_snoop::{BlockState, BusKind, snooped};
@@ -40,8 +40,8 @@ impl TagLines {
     }
 
     /// What stands on the line of a block, which may be another block.
-    pub fn standing(&self, block: u64) -> Option<Tag>
-        ensures { result ≡ standing self.now block }
+    pub fn standing_tag(&self, block: u64) -> Option<Tag>
+        ensures { result ≡ standing_tag self.now block }
     {
         self.lines[self.line_of(block)]
     }
@@ -66,11 +66,11 @@ impl TagLines {
 
     /// Sees another board's transaction on a block, by the table of the ownership protocol.
     pub fn see(&mut self, block: u64, kind: BusKind)
-        ensures { self.new ≡ told self.old block kind }
+        ensures { self.new ≡ snooped_tags self.old block kind }
     {
         if let Some(tag) = self.tag(block) {
             let (state, _) = snooped(tag.state, kind);
-            self.put(block, in_state(tag, state));
+            self.put(block, tag_in_state(tag, state));
         }
     }
 
@@ -78,12 +78,12 @@ impl TagLines {
     pub fn holds(&self, page: u32) -> bool
         ensures { result ≡ holds_page page self.now }
     {
-        self.lines.iter().any(|tag| is_of_page(tag, page))
+        self.lines.iter().any(|tag| is_tag_of_page(tag, page))
     }
 
     /// The number of a block's line.
     fn line_of(&self, block: u64) -> usize
-        ensures value { result ≡ slot_of self.now block }
+        ensures value { result ≡ tag_index self.now block }
         ensures within { result < length self.now }
     {
         (block % self.lines.len() as u64) as usize
@@ -91,8 +91,8 @@ impl TagLines {
 }
 
 /// A tag in another state: nothing where that is Invalid.
-fn in_state(tag: Tag, state: BlockState) -> Option<Tag>
-    ensures { result ≡ in_state state tag }
+fn tag_in_state(tag: Tag, state: BlockState) -> Option<Tag>
+    ensures { result ≡ tag_in_state state tag }
 {
     match state {
         BlockState::Invalid => None,
@@ -101,8 +101,8 @@ fn in_state(tag: Tag, state: BlockState) -> Option<Tag>
 }
 
 /// Whether a line holds a block of a page, which has 128 blocks.
-fn is_of_page(tag: &Option<Tag>, page: u32) -> bool
-    ensures { result ≡ is_of_page page tag.now }
+fn is_tag_of_page(tag: &Option<Tag>, page: u32) -> bool
+    ensures { result ≡ is_tag_of_page page tag.now }
 {
     match tag {
         Some(tag) => tag.block >> 7 == page as u64,

@@ -9,8 +9,8 @@ ghost use Rattle.spur_addr.specs.PageEntry.{is_readable};
 ghost use Rattle.spur_flat.specs.Refused.{result_of};
 ghost use Rattle.spur_flat.specs.Blocks.{is_layer, layer_of, root_word_of};
 ghost use Rattle.spur_flat.specs.Pager.{word_of};
-ghost use Rattle.spur_flat.specs.TagLines.{filled_state, fresh_tag, kind_of, state_of};
-ghost use Rattle.spur_flat.specs.TagRules.{claim_refusal, dirty_copy, fill_refusal, flush_refusal, held, load_refusal, may_fill, pager_refusal, refresh_refusal, state_number, table_refusal, write_back_refusal, write_refusal};
+ghost use Rattle.spur_flat.specs.TagLines.{filled_state, fresh_tag, kind_of, block_state};
+ghost use Rattle.spur_flat.specs.TagRules.{claim_refusal, dirty_copy, fill_refusal, flush_refusal, tag_condition, load_refusal, may_fill, pager_refusal, refresh_refusal, state_number, table_refusal, write_back_refusal, write_refusal};
 ghost use Rattle.spur_flat.specs.Validity.{IsValidFlat};
 
 use crate::access::{AccessKind, allowed};
@@ -44,7 +44,7 @@ pub fn number(state: BlockState) -> u64
 
 /// The state of a block with this tag: Invalid where there is none.
 pub fn state(tag: Option<Tag>) -> BlockState
-    ensures { result ≡ state_of tag }
+    ensures { result ≡ block_state tag }
 {
     match tag {
         Some(tag) => tag.state,
@@ -64,7 +64,7 @@ fn dirty(tag: Option<Tag>) -> bool
 
 /// A condition, by its number: it holds, or FOUND is this.
 fn condition(test: bool, number: u64, found: u64) -> Result<(), Illegal>
-    ensures { result ≡ result_of (held test number found None) }
+    ensures { result ≡ result_of (tag_condition test number found None) }
 {
     if test {
         Ok(())

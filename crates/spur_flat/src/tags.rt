@@ -5,7 +5,7 @@ ghost use Rattle.spur_addr.specs.Address.{block_of};
 ghost use Rattle.spur_flat.specs.Blocks.{IsOfBoards};
 ghost use Rattle.spur_flat.specs.Refused.{result_of};
 ghost use Rattle.spur_snoop.specs.Size.{IsBoardCount, IsLineCount};
-ghost use Rattle.spur_flat.specs.TagLines.{bus_on, dirtied, each_from, lines_at, no_tags, restated, seen, standing, tag_at, tags_on, with_tag_at};
+ghost use Rattle.spur_flat.specs.TagLines.{bus_on, dirtied_tag, each_from, lines_at, no_tags, restated_tag, snooped_board, standing_tag, tag_at, tags_on, with_tag_at};
 ghost use Rattle.spur_flat.specs.TagRules.{entry_state, holder_from, tags_refusal, unheld};
 ghost use Rattle.spur_flat.specs.Validity.{IsValidFlat};
 
@@ -160,15 +160,15 @@ impl Tags {
                 self.transact(*board, at.block(), rules::kind(*need), Some(fresh));
             }
             Entry::Claim { board, at } => {
-                let mine = restated(self.tag(*board, *at), BlockState::OwnedExclusive);
+                let mine = restated_tag(self.tag(*board, *at), BlockState::OwnedExclusive);
                 self.transact(*board, at.block(), BusKind::Claim, mine);
             }
             Entry::WriteBack { board, at } => {
-                let mine = restated(self.tag(*board, *at), BlockState::UnOwned);
+                let mine = restated_tag(self.tag(*board, *at), BlockState::UnOwned);
                 self.transact(*board, at.block(), BusKind::WriteBack, mine);
             }
             Entry::Refresh { board, at } => {
-                let mine = dirtied(self.tag(*board, *at));
+                let mine = dirtied_tag(self.tag(*board, *at));
                 self.put(*board, at.block(), mine);
             }
             Entry::BlockFlush { holder, at, .. } => self.put(*holder, at.block(), None),
@@ -194,9 +194,9 @@ impl Tags {
     }
 
     /// What stands on a board's line of the block of an address.
-    fn standing(&self, board: u32, at: GlobalAddr) -> Option<Tag>
+    fn standing_tag(&self, board: u32, at: GlobalAddr) -> Option<Tag>
         requires { board < length self.now }
-        ensures { result ≡ standing (lines_at self.now board) (block_of at) }
+        ensures { result ≡ standing_tag (lines_at self.now board) (block_of at) }
     {
         self.boards[board as usize].standing(at.block())
     }
@@ -227,7 +227,7 @@ impl Tags {
 
 /// All boards, where board `own` made a transaction.
 fn see_all(boards: &mut [TagLines], own: usize, block: u64, kind: BusKind, mine: Option<Tag>)
-    ensures { boards.new ≡ each_from (seen own block kind mine) 0 boards.old }
+    ensures { boards.new ≡ each_from (snooped_board own block kind mine) 0 boards.old }
 {
     for (k, lines) in boards.iter_mut().enumerate() {
         see(lines, k, own, block, kind, mine);
@@ -236,7 +236,7 @@ fn see_all(boards: &mut [TagLines], own: usize, block: u64, kind: BusKind, mine:
 
 /// Board `k`, where board `own` made a transaction: the own board puts its tag, each other one sees the transaction.
 fn see(lines: &mut TagLines, k: usize, own: usize, block: u64, kind: BusKind, mine: Option<Tag>)
-    ensures { lines.new ≡ seen own block kind mine k lines.old }
+    ensures { lines.new ≡ snooped_board own block kind mine k lines.old }
 {
     if k == own {
         lines.put(block, mine);
@@ -258,8 +258,8 @@ fn holder(boards: &[TagLines], page: u32) -> Option<usize>
 }
 
 /// A tag in another state that is not Invalid.
-fn restated(tag: Option<Tag>, state: BlockState) -> Option<Tag>
-    ensures { result ≡ restated tag state }
+fn restated_tag(tag: Option<Tag>, state: BlockState) -> Option<Tag>
+    ensures { result ≡ restated_tag tag state }
 {
     match tag {
         Some(tag) => Some(Tag { state, ..tag }),
@@ -268,8 +268,8 @@ fn restated(tag: Option<Tag>, state: BlockState) -> Option<Tag>
 }
 
 /// A tag with its dirty copy set.
-fn dirtied(tag: Option<Tag>) -> Option<Tag>
-    ensures { result ≡ dirtied tag }
+fn dirtied_tag(tag: Option<Tag>) -> Option<Tag>
+    ensures { result ≡ dirtied_tag tag }
 {
     match tag {
         Some(tag) => Some(Tag { dirty: true, ..tag }),

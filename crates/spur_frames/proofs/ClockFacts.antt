@@ -4,7 +4,7 @@ use Rattle.std.specs.Option.{option_or}
 use Rattle.std.proofs.lemmas.Bool.{eq-eqb, ne_eqb}
 use Rattle.std.proofs.lemmas.List.{length-append}
 use Rattle.spur_frames.specs.Frames.{Frames, looked_at, hand_past, place_after, passed}
-use Rattle.spur_frames.specs.Clock.{AreSet, Resident, Turn, IsCleared, before_clear, clearing_turn, clock, first_clear, first_of, frame_of, leaving_turn, leaves_of, turn_at, moving_hand, page_found, page_in, pages_of, residents_from, round, set_count, without}
+use Rattle.spur_frames.specs.Clock.{AreSet, Resident, Turn, IsCleared, before_clear, clearing_turn, clock, first_clear, first_of, frame_of, leaving_turn, leaves_of, turn_at, moving_hand, page_found, page_of_frame, pages_of, residents_from, round, set_count, without}
 use Rattle.spur_frames.specs.Laws.{ClearLeaves, ClearedAreFew, FirstClearLeaves, FirstLeavesWhereAllAreSet, HandDoesTheList, HaveOwnPages, SetBitsAreFew, SetBitsFall, SetIsClearedAndPassed}
 use Rattle.spur_frames.proofs.RoundFacts.{Found, found_first, found_none, passes, split}
 use Rattle.spur_frames.proofs.DifferFacts.{Differ, IsNoPageOf, differ_round}
@@ -120,8 +120,8 @@ turn_set frames bits later r rs set cleared none =
     ∙ ap (λ (o : Option Resident). Some (picked o r)) same)))
 
 -- the page that the hand finds is that of the first of the list
-found_page : (frames : Frames) (frame : ℕ) (found : Found frames frame) → page_in frames frame ≡ found.first.page
-found_page frames frame found = sym (ap (page_in frames) found.is) ∙ (passes frames found.first found.rest found.list).page
+found_page : (frames : Frames) (frame : ℕ) (found : Found frames frame) → page_of_frame frames frame ≡ found.first.page
+found_page frames frame found = sym (ap (page_of_frame frames) found.is) ∙ (passes frames found.first found.rest found.list).page
 
 cleared_same : (bits later : ℕ → Bool) (page other : ℕ) → page ≡ other → IsCleared bits page later → IsCleared bits other later
 cleared_same bits later page other same h = subst (λ (p : ℕ). IsCleared bits p later) same h
@@ -132,9 +132,9 @@ found_alone frames frame found own = (subst Differ found.list (differ_round fram
 pub set-is-cleared-and-passed : SetIsClearedAndPassed
 set-is-cleared-and-passed frames bits later frame own is set cleared =
     let found = found_first frames frame is in
-    let page : page_in frames frame ≡ found.first.page = found_page frames frame found in
+    let page : page_of_frame frames frame ≡ found.first.page = found_page frames frame found in
     ap (turn_of frames bits) found.list
-    ∙ turn_set frames bits later found.first found.rest (sym (ap bits page) ∙ set) (cleared_same bits later (page_in frames frame) found.first.page page cleared) (found_alone frames frame found own)
+    ∙ turn_set frames bits later found.first found.rest (sym (ap bits page) ∙ set) (cleared_same bits later (page_of_frame frames frame) found.first.page page cleared) (found_alone frames frame found own)
     ∙ sym (ap (λ (rs : List Resident). clearing_turn found.first.page (turn_of (passed frames) later rs)) (passes frames found.first found.rest found.list).last)
     ∙ sym (ap (λ (p : ℕ). clearing_turn p (clock (passed frames) later)) page)
 
@@ -142,7 +142,7 @@ pub clear-leaves : ClearLeaves
 clear-leaves frames bits frame is clear =
     let found = found_first frames frame is in
     let r : Resident = found.first in
-    let page : page_in frames frame ≡ r.page = found_page frames frame found in
+    let page : page_of_frame frames frame ≡ r.page = found_page frames frame found in
     let first : bits r.page ≡ false = sym (ap bits page) ∙ clear in
     ap (turn_of frames bits) found.list
     ∙ turn_is frames bits (r ∷ found.rest) [] r
@@ -155,8 +155,8 @@ pub set-bits-fall : SetBitsFall
 set-bits-fall frames bits later frame own is set cleared =
     let found = found_first frames frame is in
     let r : Resident = found.first in
-    let page : page_in frames frame ≡ r.page = found_page frames frame found in
-    let here : IsCleared bits r.page later = cleared_same bits later (page_in frames frame) r.page page cleared in
+    let page : page_of_frame frames frame ≡ r.page = found_page frames frame found in
+    let here : IsCleared bits r.page later = cleared_same bits later (page_of_frame frames frame) r.page page cleared in
     let now : set_count later (round (passed frames)) ≡ set_count bits found.rest =
     ap (set_count later) (passes frames r found.rest found.list).last
     ∙ count_last later found.rest r here.clear
@@ -224,22 +224,22 @@ abbrev look_at : ℕ → Frames → (ℕ → Bool) → Option ℕ → Turn
 look_at n frames bits o = turn_at frames bits (moving_hand n (passed frames) (without bits (page_found frames o))) o
 
 hand_bit : (n : ℕ) (frames : Frames) (bits : ℕ → Bool) (frame : ℕ) (b : Bool) → DoesAll n → HaveOwnPages frames → set_count bits (round frames) < suc n → looked_at frames ≡ Some frame
-    → bits (page_in frames frame) ≡ b → look_at n frames bits (Some frame) ≡ clock frames bits
+    → bits (page_of_frame frames frame) ≡ b → look_at n frames bits (Some frame) ≡ clock frames bits
 hand_bit n frames bits frame true more own few is set =
-    let page : ℕ = page_in frames frame in
+    let page : ℕ = page_of_frame frames frame in
     let cleared : IsCleared bits page (without bits page) = without_is bits page in
     let fewer : set_count (without bits page) (round (passed frames)) + 1 ≡ set_count bits (round frames) = set-bits-fall frames bits (without bits page) frame own is set cleared in
     ap (λ (b : Bool). if b then clearing_turn page (moving_hand n (passed frames) (without bits page)) else leaving_turn frames frame) set
     ∙ ap (clearing_turn page) (more (passed frames) (without bits page) own (omega arith))
     ∙ sym (set-is-cleared-and-passed frames bits (without bits page) frame own is set cleared)
 hand_bit n frames bits frame false more own few is clear =
-    ap (λ (b : Bool). if b then clearing_turn (page_in frames frame) (moving_hand n (passed frames) (without bits (page_in frames frame))) else leaving_turn frames frame) clear
+    ap (λ (b : Bool). if b then clearing_turn (page_of_frame frames frame) (moving_hand n (passed frames) (without bits (page_of_frame frames frame))) else leaving_turn frames frame) clear
     ∙ sym (clear-leaves frames bits frame is clear)
 
 hand_look : (n : ℕ) (frames : Frames) (bits : ℕ → Bool) (o : Option ℕ) → DoesAll n → HaveOwnPages frames → set_count bits (round frames) < suc n → looked_at frames ≡ o
     → look_at n frames bits o ≡ clock frames bits
 hand_look n frames bits None more own few is = sym (ap (turn_of frames bits) (found_none frames is))
-hand_look n frames bits (Some frame) more own few is = hand_bit n frames bits frame (bits (page_in frames frame)) more own few is refl
+hand_look n frames bits (Some frame) more own few is = hand_bit n frames bits frame (bits (page_of_frame frames frame)) more own few is refl
 
 hand_does : (n : ℕ) → DoesAll n
 hand_does zero frames bits own few = absurd (omega arith)

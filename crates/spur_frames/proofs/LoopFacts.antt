@@ -2,7 +2,7 @@
 use Rattle.std.proofs.Common.{◌≡◌, ◌∙◌, ℕ, ◌+◌, List, [], ◌∷◌, ◌++◌, length, Some, refl, sym, ap, arith}
 use Rattle.std.proofs.lemmas.List.{append-nil, append_assoc, length-append}
 use Rattle.spur_frames.specs.Frames.{Frames, hand_past, looked_at, passed}
-use Rattle.spur_frames.specs.Clock.{Turn, cleared_before, clock, page_in, round, set_count}
+use Rattle.spur_frames.specs.Clock.{Turn, cleared_before, clock, page_of_frame, round, set_count}
 use Rattle.spur_frames.specs.Laws.{TurnBegins, TurnEnds, TurnGoesOn}
 use Rattle.spur_frames.proofs.ClockFacts.{clear-leaves, set-bits-fall, set-is-cleared-and-passed}
 
@@ -11,7 +11,7 @@ turn-begins frames bits own = record { own = own; rest = refl; moved = refl; set
 
 pub turn-goes-on : TurnGoesOn
 turn-goes-on start first cleared frames bits later frame way is set clear =
-    let page : ℕ = page_in frames frame in
+    let page : ℕ = page_of_frame frames frame in
     let next : Turn = clock (passed frames) later in
     let hand : ℕ = hand_past frames (looked_at frames) in
     let before : length cleared + set_count bits (round frames) ≡ set_count first (round start) = way.set in
@@ -29,7 +29,7 @@ turn-goes-on start first cleared frames bits later frame way is set clear =
 
 pub turn-ends : TurnEnds
 turn-ends start first cleared frames bits frame way is clear =
-    let page : ℕ = page_in frames frame in
+    let page : ℕ = page_of_frame frames frame in
     let hand : ℕ = hand_past frames (looked_at frames) in
     let found : hand_past frames (looked_at frames) ≡ hand_past frames (Some frame) = ap (hand_past frames) is in
     let turn : clock start first ≡ record { cleared = cleared; leaves = Some (record { frame = frame; page = page }); hand = hand } =

@@ -4,7 +4,7 @@ use Rattle.std.specs.Option.{option_or}
 use Rattle.std.proofs.lemmas.Bool.{cases_eq, eq-eqb, ne_eqb}
 use Rattle.std.proofs.lemmas.List.{append-nil, append_assoc}
 use Rattle.spur_frames.specs.Frames.{Frames, taken_from, looked_at, place_after, hand_past, passed}
-use Rattle.spur_frames.specs.Clock.{Resident, residents_from, round, first_of, frame_of, page_held, page_in}
+use Rattle.spur_frames.specs.Clock.{Resident, residents_from, round, first_of, frame_of, page_held, page_of_frame}
 
 -- the residents of a list of frames are those of its two parts
 pub split : (k j : ℕ) (held : List (Option (ℕ × ℕ))) → residents_from k held ≡ residents_from k (take j held) ++ residents_from (k + j) (drop j held)
@@ -115,7 +115,7 @@ whole first held =
 -- what is so where the hand finds a resident and passes it
 pub record Passes (frames : Frames) (r : Resident) (rs : List Resident) : Type 0 where
   pub found : looked_at frames ≡ Some r.frame
-  pub page : page_in frames r.frame ≡ r.page
+  pub page : page_of_frame frames r.frame ≡ r.page
   pub last : round (passed frames) ≡ rs ++ r ∷ []
 
 -- the list with a resident's place just passed

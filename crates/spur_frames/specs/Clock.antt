@@ -62,13 +62,13 @@ abbrev pub page_held : Option (ℕ × ℕ) → ℕ
 page_held None = 0
 page_held (Some holder) = holder.0
 
-abbrev pub page_in : Frames → ℕ → ℕ
-page_in frames frame = page_held (holder_of frames frame)
+abbrev pub page_of_frame : Frames → ℕ → ℕ
+page_of_frame frames frame = page_held (holder_of frames frame)
 
 -- the page that the hand finds, if there is a taken frame
 abbrev pub page_found : Frames → Option ℕ → ℕ
 page_found frames None = 0
-page_found frames (Some frame) = page_in frames frame
+page_found frames (Some frame) = page_of_frame frames frame
 
 -- the bits with that of one page cleared
 abbrev pub without : (ℕ → Bool) → ℕ → ℕ → Bool
@@ -89,12 +89,12 @@ cleared_before pages turn = record turn { cleared = pages ++ turn.cleared }
 
 -- a turn in which the page of a frame leaves at once
 abbrev pub leaving_turn : Frames → ℕ → Turn
-leaving_turn frames frame = record { cleared = []; leaves = Some (record { frame = frame; page = page_in frames frame }); hand = hand_past frames (Some frame) }
+leaving_turn frames frame = record { cleared = []; leaves = Some (record { frame = frame; page = page_of_frame frames frame }); hand = hand_past frames (Some frame) }
 
 -- what the hand does with the taken frame that it finds, where `later` is what it does after passing it with the bit cleared
 abbrev pub turn_at : Frames → (ℕ → Bool) → Turn → Option ℕ → Turn
 turn_at frames bits later None = record { cleared = []; leaves = None; hand = frames.hand }
-turn_at frames bits later (Some frame) = if bits (page_in frames frame) then clearing_turn (page_in frames frame) later else leaving_turn frames frame
+turn_at frames bits later (Some frame) = if bits (page_of_frame frames frame) then clearing_turn (page_of_frame frames frame) later else leaving_turn frames frame
 
 -- the moving hand, which looks at n frames at most: where the bit of the page that it finds is set, it clears it,
 -- passes the frame and looks again; else that page leaves, and the hand passes it

@@ -1,7 +1,7 @@
 -- Laws of the frame table and of its clock.
 use Rattle.std.specs.Prelude.{ℕ, ◌≡◌, ◌≢◌, ◌+◌, ◌<◌, ◌≤◌, ◌↔◌, Bool, true, false, List, [], ◌∷◌, ◌++◌, length, Some, None, IsSome}
 use Rattle.spur_frames.specs.Frames.{Frames, AreFrames, IsFrame, IsFree, holder_of, least_free, looked_at, new_frames, passed, place_after, take_frame, release_frame}
-use Rattle.spur_frames.specs.Clock.{AreSet, IsCleared, Resident, cleared_before, clearing_turn, clock, leaving_turn, moving_hand, page_in, pages_of, round, set_count}
+use Rattle.spur_frames.specs.Clock.{AreSet, IsCleared, Resident, cleared_before, clearing_turn, clock, leaving_turn, moving_hand, page_of_frame, pages_of, round, set_count}
 
 -- no free frame has a number below the one that is told
 abbrev pub NoneBelowIsFree : Type 0
@@ -65,18 +65,18 @@ HaveOwnPages frames = (frame other : ℕ) (here there : ℕ × ℕ) → holder_o
 -- there once the hand has passed it
 abbrev pub SetIsClearedAndPassed : Type 0
 SetIsClearedAndPassed = (frames : Frames) (bits later : ℕ → Bool) (frame : ℕ) → HaveOwnPages frames
-    → looked_at frames ≡ Some frame → bits (page_in frames frame) ≡ true → IsCleared bits (page_in frames frame) later
-    → clock frames bits ≡ clearing_turn (page_in frames frame) (clock (passed frames) later)
+    → looked_at frames ≡ Some frame → bits (page_of_frame frames frame) ≡ true → IsCleared bits (page_of_frame frames frame) later
+    → clock frames bits ≡ clearing_turn (page_of_frame frames frame) (clock (passed frames) later)
 
 -- where its bit is clear, the page leaves
 abbrev pub ClearLeaves : Type 0
 ClearLeaves = (frames : Frames) (bits : ℕ → Bool) (frame : ℕ)
-    → looked_at frames ≡ Some frame → bits (page_in frames frame) ≡ false → clock frames bits ≡ leaving_turn frames frame
+    → looked_at frames ≡ Some frame → bits (page_of_frame frames frame) ≡ false → clock frames bits ≡ leaving_turn frames frame
 
 -- each page that is cleared and passed leaves one set bit fewer
 abbrev pub SetBitsFall : Type 0
 SetBitsFall = (frames : Frames) (bits later : ℕ → Bool) (frame : ℕ) → HaveOwnPages frames
-    → looked_at frames ≡ Some frame → bits (page_in frames frame) ≡ true → IsCleared bits (page_in frames frame) later
+    → looked_at frames ≡ Some frame → bits (page_of_frame frames frame) ≡ true → IsCleared bits (page_of_frame frames frame) later
     → set_count later (round (passed frames)) + 1 ≡ set_count bits (round frames)
 
 -- there are no more set bits than frames, and no more pages are cleared
@@ -105,15 +105,15 @@ TurnBegins = (frames : Frames) (bits : ℕ → Bool) → HaveOwnPages frames →
 -- it goes on where the page that the hand finds has its bit set, is cleared and is passed
 abbrev pub TurnGoesOn : Type 0
 TurnGoesOn = (start : Frames) (first : ℕ → Bool) (cleared : List ℕ) (frames : Frames) (bits later : ℕ → Bool) (frame : ℕ) → IsUnderWay start first cleared frames bits
-    → looked_at frames ≡ Some frame → bits (page_in frames frame) ≡ true → IsCleared bits (page_in frames frame) later
-    → IsUnderWay start first (cleared ++ page_in frames frame ∷ []) (passed frames) later
+    → looked_at frames ≡ Some frame → bits (page_of_frame frames frame) ≡ true → IsCleared bits (page_of_frame frames frame) later
+    → IsUnderWay start first (cleared ++ page_of_frame frames frame ∷ []) (passed frames) later
 
 -- a turn that ends with the page of a frame
 pub record IsAtEnd (start : Frames) (first : ℕ → Bool) (cleared : List ℕ) (frames : Frames) (frame : ℕ) : Type 0 where
-  pub turn : clock start first ≡ record { cleared = cleared; leaves = Some (record { frame = frame; page = page_in frames frame }); hand = (passed frames).hand }
+  pub turn : clock start first ≡ record { cleared = cleared; leaves = Some (record { frame = frame; page = page_of_frame frames frame }); hand = (passed frames).hand }
   pub moved : passed frames ≡ record start { hand = (clock start first).hand }
 
 -- it ends where the page that the hand finds has its bit clear
 abbrev pub TurnEnds : Type 0
 TurnEnds = (start : Frames) (first : ℕ → Bool) (cleared : List ℕ) (frames : Frames) (bits : ℕ → Bool) (frame : ℕ) → IsUnderWay start first cleared frames bits
-    → looked_at frames ≡ Some frame → bits (page_in frames frame) ≡ false → IsAtEnd start first cleared frames frame
+    → looked_at frames ≡ Some frame → bits (page_of_frame frames frame) ≡ false → IsAtEnd start first cleared frames frame

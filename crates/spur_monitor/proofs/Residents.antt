@@ -13,7 +13,7 @@ use Rattle.spur_flat.specs.declared.flat.Flat.{Flat}
 use Rattle.spur_flat.specs.Access.{allows, is_write, may, miss_of}
 use Rattle.spur_flat.specs.Table.{entry_at, place_in, place_of, table_words, walk_of}
 use Rattle.spur_flat.specs.Validity.{IsValidFlat}
-use Rattle.spur_flat.specs.History.{IsAllowed, on, with_word}
+use Rattle.spur_flat.specs.History.{IsAllowed, on, with_word_at}
 use Rattle.spur_flat.specs.Laws.{address_of}
 use Rattle.spur_flat.specs.StateLaws.{IsAccess}
 use Rattle.spur_flat.proofs.WalkFacts.{data_within, done_is_valid, entry_at-same, walk_of-entry}
@@ -77,7 +77,7 @@ past_tables : (F : Flat) (kind : AccessKind) (g : ℕ) (entry : Option ℕ) → 
 past_tables F kind g None ok small walked done = absurd (both_false (is_aligned g) done)
 past_tables F kind g (Some e) ok small walked done = (data_within F g e ok small walked (done_is_valid e kind g done)).0
 
-resident-with_word : (F : Flat) (place value : ℕ) → IsValidFlat F → IsAllResident F → table_words F.tables ≤ place → IsAllResident (with_word F place value)
+resident-with_word : (F : Flat) (place value : ℕ) → IsValidFlat F → IsAllResident F → table_words F.tables ≤ place → IsAllResident (with_word_at F place value)
 resident-with_word F place value ok all past = record {
   each = λ i below.
       let had = all.each i below in

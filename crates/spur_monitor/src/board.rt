@@ -4,7 +4,7 @@ ghost use Rattle.std.specs.Prelude.{◌≡◌, ◌<◌, None, Some, IfOk};
 ghost use Rattle.spur_flat.specs.History.{IsAllowed, on};
 ghost use Rattle.spur_flat.specs.Validity.{IsValidFlat};
 ghost use Rattle.spur_cpu.specs.After.{carry_local};
-ghost use Rattle.spur_cpu.specs.Meaning.{IsAccess};
+ghost use Rattle.spur_cpu.specs.Meaning.{WantsAccess};
 ghost use Rattle.spur_cpu.specs.declared.cpu.Want.TheVariants.{Local};
 ghost use Rattle.spur_monitor.specs.Boards.{entry_of};
 ghost use Rattle.spur_monitor.specs.Resident.{IsAllResident};
@@ -110,7 +110,7 @@ impl<C: Cpu> Board<C> {
     /// Completes the instruction of an access that is done. `value` is the word that a load or a test-and-set read.
     fn done(&mut self, value: u32)
         requires going { IsGoing C.meaning C.state C.room self.old }
-        requires access { IsAccess (C.meaning.wants (C.state self.old.cpu)) }
+        requires access { WantsAccess (C.meaning.wants (C.state self.old.cpu)) }
         ensures done { HasDone C.meaning C.state self.old value self.new }
         ensures stays { Stays C.meaning C.state C.room self.old self.new }
     {
@@ -121,7 +121,7 @@ impl<C: Cpu> Board<C> {
     /// Takes the entry of the board's access: the access is done, or a fault ends the board.
     fn take(&mut self, entry: &Entry)
         requires going { IsGoing C.meaning C.state C.room self.old }
-        requires access { IsAccess (C.meaning.wants (C.state self.old.cpu)) }
+        requires access { WantsAccess (C.meaning.wants (C.state self.old.cpu)) }
         requires last { IsLast entry.now }
         ensures taken { TakenBy C.meaning C.state self.old entry.now self.new }
         ensures stays { Stays C.meaning C.state C.room self.old self.new }

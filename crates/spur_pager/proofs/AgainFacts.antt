@@ -8,7 +8,8 @@ use Rattle.spur_frames.specs.Frames.{Frames}
 use Rattle.spur_walk.specs.Present.{ArePresent, MayWalk}
 use Rattle.spur_walk.specs.Tables.{logical_flat}
 use Rattle.spur_pager.specs.View.{View}
-use Rattle.spur_pager.specs.Stand.{AreClean, AreFramed, flat_in, standing_flat, with_told}
+use Rattle.spur_pager.specs.Stand.{AreFramed, flat_in, standing_flat, with_told}
+use Rattle.spur_flat.specs.Clean.{AreClean}
 use Rattle.spur_pager.specs.Again.{SameHasStepped, SameStandsAgain, StepHasStepped, StepStandsAgain, StepsAddUp, StepsStandAgain}
 
 pub step-has-stepped : StepHasStepped

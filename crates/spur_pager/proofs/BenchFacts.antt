@@ -31,7 +31,8 @@ use Rattle.spur_walk.specs.Steps.{Steps, answer_of}
 use Rattle.spur_walk.specs.Tables.{HasTables, logical_flat}
 use Rattle.spur_walk.proofs.StepFacts.{same_flat}
 use Rattle.spur_pager.specs.View.{View}
-use Rattle.spur_pager.specs.Stand.{AreClean, AreFramed, IsServable, Stands, flat_in, standing_flat, with_told}
+use Rattle.spur_pager.specs.Stand.{AreFramed, IsServable, Stands, flat_in, standing_flat, with_told}
+use Rattle.spur_flat.specs.Clean.{AreClean}
 use Rattle.spur_pager.specs.Acts.{Act}
 use Rattle.spur_pager.specs.Bench.{IsBench}
 use Rattle.spur_pager.specs.Course.{bits_in, turn_of}

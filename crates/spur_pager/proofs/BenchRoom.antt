@@ -10,15 +10,15 @@ use Rattle.spur_flat.specs.declared.entry.Entry.{Entry}
 use Rattle.spur_flat.specs.declared.entry.Entry.TheVariants.{BlockFlush}
 use Rattle.spur_bus.specs.Agrees.{Agrees}
 use Rattle.spur_bus.specs.Calls.{line_count}
-use Rattle.spur_frames.specs.Clock.{page_in}
+use Rattle.spur_frames.specs.Clock.{page_of_frame}
 use Rattle.spur_frames.specs.Frames.{least_free}
 use Rattle.spur_frames.proofs.ClockFacts.{cleared-are-few}
 use Rattle.spur_walk.specs.Tables.{block_address}
 use Rattle.spur_pager.specs.View.{View}
 use Rattle.spur_pager.specs.Acts.{flushes_from, flushes_in}
 use Rattle.spur_pager.specs.Bench.{IsBench}
-use Rattle.spur_pager.specs.Course.{bits_in, turn_of, victim_of}
-use Rattle.spur_pager.specs.Room.{clock_room, finish_room, free_room, lines_of, room_for}
+use Rattle.spur_pager.specs.Course.{bits_in, turn_of, outgoing_frame}
+use Rattle.spur_pager.specs.Room.{clock_room, finish_room, free_room, page_line_count, room_for}
 use Rattle.spur_pager.proofs.BenchFacts.{three_frames}
 
 -- a cache has no more lines of a page than lines
@@ -49,7 +49,7 @@ all_128 : (caches : List (List (Option Line))) → Agrees caches → line_count 
 all_128 [] agree count i lines there = cc
 all_128 (first ∷ rest) agree count i lines there = agree.sizes i 0 lines first there refl ∙ count
 
-few_lines : (w : View) (page : ℕ) → IsBench w → lines_of w.caches page ≤ 384
+few_lines : (w : View) (page : ℕ) → IsBench w → page_line_count w.caches page ≤ 384
 few_lines w page bench =
     let few : length (flushes_from 0 0 page w.caches) ≤ 128 * length w.caches = few_from 0 0 page w.caches (all_128 w.caches bench.stands.walk.agree bench.lines) in
     let boards : length w.caches ≡ 3 = bench.boards in
@@ -65,8 +65,8 @@ few_turns w None bench =
 
 few_finished : (w : View) → IsBench w → finish_room w ≤ 389
 few_finished w bench =
-    let few : lines_of w.caches (page_in w.frames (victim_of w)) ≤ 384 = few_lines w (page_in w.frames (victim_of w)) bench in
-    let is : lines_of w.caches (page_in w.frames (victim_of w)) + 5 ≤ 389 = omega arith in
+    let few : page_line_count w.caches (page_of_frame w.frames (outgoing_frame w)) ≤ 384 = few_lines w (page_of_frame w.frames (outgoing_frame w)) bench in
+    let is : page_line_count w.caches (page_of_frame w.frames (outgoing_frame w)) + 5 ≤ 389 = omega arith in
     is
 
 few_freed : (w : View) (least : Option ℕ) → IsBench w → free_room w least ≤ 409

@@ -14,7 +14,7 @@ use Rattle.spur_flat.specs.Table.{walk_of}
 use Rattle.spur_walk.specs.Laws.{is_served}
 use Rattle.spur_pager.specs.View.{View}
 use Rattle.spur_pager.specs.Stand.{IsServable, entry_in, flat_in, standing_flat}
-use Rattle.spur_pager.specs.Course.{gained, slot_in, victim_of}
+use Rattle.spur_pager.specs.Course.{gained, slot_in, outgoing_frame}
 use Rattle.spur_pager.specs.Served.{HasFault, IsServed, word_after}
 use Rattle.spur_pager.proofs.CourseFacts.{entry_at}
 use Rattle.spur_pager.proofs.FaultFacts.{answer_may}
@@ -85,7 +85,7 @@ bits_after : (e f b : ℕ) (w : View) (kind : FaultKind) (at : ℕ) → entry_in
 bits_after e f b w fault.Missing at here is bits =
     let p = protection_of (entry_in w (page_of at)) in
     AfterMissing (ap is_valid is ∙ is_valid-resident (gained b w) p) (ap is_leaving is ∙ is_leaving-resident (gained b w) p)
-bits_after e f b w fault.Leaving at here is bits = AfterLeaving (ap is_valid is ∙ is_valid-swapped (slot_in w.frames (victim_of w)) (protection_of (entry_in w (page_of at))))
+bits_after e f b w fault.Leaving at here is bits = AfterLeaving (ap is_valid is ∙ is_valid-swapped (slot_in w.frames (outgoing_frame w)) (protection_of (entry_in w (page_of at))))
 bits_after e f b w fault.Reference at here is bits =
     let now : f ≡ with_bit e 1 true = is ∙ ap (λ (n : ℕ). with_bit n 1 true) here in
     AfterReference (ap is_valid now ∙ same_bit e 1 0 true (λ h. cc)) (ap is_leaving now ∙ same_bit e 1 6 true (λ h. cc)) (ap is_dirty now ∙ same_bit e 1 2 true (λ h. cc)) (ap is_referenced now ∙ set_bit e 1)

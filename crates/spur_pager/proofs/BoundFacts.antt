@@ -5,13 +5,13 @@ use Rattle.spur_cache.specs.declared.line.Line.{Line}
 use Rattle.spur_cache.specs.Lines.{IsCache, is_of_page, line_at}
 use Rattle.spur_cache.proofs.SpanFacts.{wide_span}
 use Rattle.spur_flat.specs.declared.access.FaultKind.TheVariants as fault
-use Rattle.spur_frames.specs.Clock.{page_in}
+use Rattle.spur_frames.specs.Clock.{page_of_frame}
 use Rattle.spur_frames.specs.Frames.{least_free}
 use Rattle.spur_frames.proofs.ClockFacts.{cleared-are-few}
 use Rattle.spur_pager.specs.Acts.{flushes_from, flushes_in}
-use Rattle.spur_pager.specs.Course.{bits_in, turn_of, victim_of}
+use Rattle.spur_pager.specs.Course.{bits_in, turn_of, outgoing_frame}
 use Rattle.spur_pager.specs.Laws.{PageLinesAreFew, RoomIsBounded}
-use Rattle.spur_pager.specs.Room.{clock_room, finish_room, free_room, lines_of}
+use Rattle.spur_pager.specs.Room.{clock_room, finish_room, free_room, page_line_count}
 use Rattle.spur_pager.specs.Stand.{IsServable}
 use Rattle.spur_pager.specs.View.{View}
 use Rattle.spur_pager.proofs.LineFacts.{counts, from_more, one_more}
@@ -90,8 +90,8 @@ page-lines-are-few w page servable = in_caches 0 0 page w.caches servable.stands
 
 finish_bound : (w : View) → IsServable w → finish_room w ≤ 128 * length w.caches + 5
 finish_bound w servable =
-    let few : lines_of w.caches (page_in w.frames (victim_of w)) ≤ 128 * length w.caches = page-lines-are-few w (page_in w.frames (victim_of w)) servable in
-    let r : lines_of w.caches (page_in w.frames (victim_of w)) + 5 ≤ 128 * length w.caches + 5 = omega arith in r
+    let few : page_line_count w.caches (page_of_frame w.frames (outgoing_frame w)) ≤ 128 * length w.caches = page-lines-are-few w (page_of_frame w.frames (outgoing_frame w)) servable in
+    let r : page_line_count w.caches (page_of_frame w.frames (outgoing_frame w)) + 5 ≤ 128 * length w.caches + 5 = omega arith in r
 
 clock_bound : (w : View) (o : Option ℕ) → clock_room w o ≤ 5 * (length w.frames.held + 1)
 clock_bound w (Some frame) = omega arith

@@ -2,12 +2,12 @@
 use Rattle.std.proofs.Common.{◌≡◌, ◌∙◌, ℕ, ◌+◌, ◌*◌, ◌/◌, ◌%◌, ◌<◌, ◌≤◌, ◌^◌, true, ap, sym, refl, subst, List, [], ◌∷◌, ◌++◌, length, slice_index, slice_set, take, Option, Some, None, arith}
 use Rattle.std.proofs.Math.Seq.{take-set-lt}
 use Rattle.std.proofs.lemmas.List.{ext_get_or, get_or-take, length-set, length-take-le}
-use Rattle.spur_addr.specs.Address.{table_start}
+use Rattle.spur_addr.specs.Address.{table_start, page_address}
 use Rattle.spur_addr.specs.PageEntry.{is_valid, number_of, protection_of, resident_of}
 use Rattle.spur_flat.specs.declared.flat.Flat.{Flat}
 use Rattle.spur_flat.specs.declared.entry.Entry.{Entry}
 use Rattle.spur_flat.specs.declared.entry.Entry.TheVariants.{PageIn}
-use Rattle.spur_flat.specs.Pager.{come_in, entry_place, position_in, slot_of, word_of}
+use Rattle.spur_flat.specs.Pager.{come_in, entry_place, position_in, swap_slot_of, word_of}
 use Rattle.spur_addr.specs.Pages.{page_at, with_page}
 use Rattle.spur_flat.specs.Table.{table_words}
 use Rattle.spur_flat.specs.Untold.{IsLike}
@@ -22,9 +22,10 @@ use Rattle.spur_walk.specs.Tables.{HasTablesOf, logical_flat, root_at}
 use Rattle.spur_walk.proofs.StepFacts.{same_flat}
 use Rattle.spur_pager.specs.declared.change.Change.TheVariants.{In}
 use Rattle.spur_pager.specs.View.{View}
-use Rattle.spur_pager.specs.Stand.{AreClean, AreFramed, Stands, flat_in, page_address, standing_flat, with_told}
+use Rattle.spur_pager.specs.Stand.{AreFramed, Stands, flat_in, standing_flat, with_told}
+use Rattle.spur_flat.specs.Clean.{AreClean}
 use Rattle.spur_pager.specs.Acts.{Hold, Loaded, Writes, loaded_hold}
-use Rattle.spur_pager.specs.Changes.{Changes, MayChange, changed, word_in}
+use Rattle.spur_pager.specs.Changes.{Changes, MayChange, changed_word, entry_word}
 use Rattle.spur_pager.specs.Drops.{IsUnheld}
 use Rattle.spur_pager.specs.Moves.{ComesIn, MayComeIn}
 use Rattle.spur_pager.specs.Served.{hold_of, tells}
@@ -104,8 +105,8 @@ slot_small w b frame page slot may rest st =
     let F : Flat = standing_flat rest w in
     let g : ℕ = page_address page in
     let user : g < table_start = page_user page may.small in
-    let below : slot_of F g < length F.pages = (declared_stands F g st.valid (small_user g user) (swapped_declared F g st.valid user may.on_swap)).within in
-    let is : slot ≡ slot_of F g = sym may.slot_is ∙ swapped_slot F g st.valid user may.on_swap in
+    let below : swap_slot_of F g < length F.pages = (declared_stands F g st.valid (small_user g user) (swapped_declared F g st.valid user may.on_swap)).within in
+    let is : slot ≡ swap_slot_of F g = sym may.slot_is ∙ swapped_slot F g st.valid user may.on_swap in
     let pages : length F.pages ≡ length rest.pages = ap (λ (ps : List ℕ). length ps) (told_pages rest w.pages) in
     let slots : w.slots ≡ length rest.pages = st.slots in
     omega arith
@@ -183,7 +184,7 @@ module _ (w : View) (b frame page slot : ℕ) (may : MayComeIn w b frame page sl
     e = PageIn b g frame
 
     -- the word of the entry, as the state that stood has it
-    word_from : (rest : Flat) → Stands rest w → word_in from g ≡ word_of (standing_flat rest w) g
+    word_from : (rest : Flat) → Stands rest w → entry_word from g ≡ word_of (standing_flat rest w) g
     word_from rest st = (same rest st).entry g user
 
     new_words : (rest : Flat) → Stands rest w → logical_words v.caches v.memory ≡ (placed (put (standing_flat rest w) frame words) g (resident_of frame (protection_of (word_of (standing_flat rest w) g)))).words
@@ -200,14 +201,14 @@ module _ (w : View) (b frame page slot : ℕ) (may : MayComeIn w b frame page sl
         ap (λ (p : Option (List ℕ)). record (with_told rest p) { words = logical_words v.caches v.memory }) pages
         ∙ ap (λ (ws : List ℕ). record (with_told rest w.pages) { words = ws }) (new_words rest st)
 
-    slot_here : (rest : Flat) → Stands rest w → slot ≡ slot_of (standing_flat rest w) g
+    slot_here : (rest : Flat) → Stands rest w → slot ≡ swap_slot_of (standing_flat rest w) g
     slot_here rest st = sym may.slot_is ∙ swapped_slot (standing_flat rest w) g st.valid user may.on_swap
 
-    words_are : (rest : Flat) (ws : List ℕ) → Stands rest w → w.pages ≡ Some ws → words ≡ page_at (standing_flat rest w).swap (slot_of (standing_flat rest w) g)
+    words_are : (rest : Flat) (ws : List ℕ) → Stands rest w → w.pages ≡ Some ws → words ≡ page_at (standing_flat rest w).swap (swap_slot_of (standing_flat rest w) g)
     words_are rest ws st is =
         told_words w.pages ws words slot is told
         ∙ ap (page_at ws) (slot_here rest st)
-        ∙ ap (λ (p : Option (List ℕ)). page_at (with_told rest p).swap (slot_of (standing_flat rest w) g)) (sym is)
+        ∙ ap (λ (p : Option (List ℕ)). page_at (with_told rest p).swap (swap_slot_of (standing_flat rest w) g)) (sym is)
 
     told_is : (rest : Flat) (ws : List ℕ) → Stands rest w → w.pages ≡ Some ws → standing_flat rest v ≡ come_in (standing_flat rest w) g (word_of (standing_flat rest w) g) frame
     told_is rest ws st is =
@@ -220,8 +221,8 @@ module _ (w : View) (b frame page slot : ℕ) (may : MayComeIn w b frame page sl
         let F : Flat = standing_flat rest w in
         let new : ℕ = resident_of frame (protection_of (word_of F g)) in
         let declared = swapped_declared F g st.valid user may.on_swap in
-        let its : List ℕ = page_at F.swap (slot_of F g) in
-        let its_long : length its ≡ 1024 = page_long F.swap (slot_of F g) (slot_inside F g st.valid (small_user g user) declared) in
+        let its : List ℕ = page_at F.swap (swap_slot_of F g) in
+        let its_long : length its ≡ 1024 = page_long F.swap (swap_slot_of F g) (slot_inside F g st.valid (small_user g user) declared) in
         let its_may : MayPut F frame its = record { valid = st.valid; among = free_data F w.frames frame st.framed may.free; long = its_long } in
         subst (λ (G : Flat). IsLike (come_in F g (word_of F g) frame) G) (sym (flat_is rest st)) (like_placed F g new frame its words user its_may (puts rest st)
         (is_above F w.frames frame page its its_long (may_take rest st)) (is_above F w.frames frame page words long (may_take rest st)))
@@ -267,7 +268,7 @@ module _ (w : View) (b frame page slot : ℕ) (may : MayComeIn w b frame page sl
         piece = c.fetched ++ e ∷ [];
         history = c.entries;
         room = c.room;
-        done = Loaded frame words (Writes g e (changed (In frame)) ∷ []) (hold_of w) (hold_of v) (c.fetched ++ e ∷ []) long (done_one b g e (changed (In frame)) from c.mid (hold_of v) c.fetched c.fetch c.to_is);
+        done = Loaded frame words (Writes g e (changed_word (In frame)) ∷ []) (hold_of w) (hold_of v) (c.fetched ++ e ∷ []) long (done_one b g e (changed_word (In frame)) from c.mid (hold_of v) c.fetched c.fetch c.to_is);
         made = changes_made b g (In frame) from (hold_of v) (past_of w) (past_of v) may.within (small_user g user) (page_starts page) c;
         keeps = moved-keeps b g (In frame) w v from c moved;
         carries = moved-is-carried b g (In frame) w v from c moved;

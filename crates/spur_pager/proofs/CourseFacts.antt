@@ -4,7 +4,7 @@ use Rattle.std.specs.Prelude.{IfErr, OnOk, Result, Ok, Err}
 use Rattle.std.specs.List.{AllByRecursion}
 use Rattle.std.proofs.Math.Seq.{drop-append_seam}
 use Rattle.std.proofs.lemmas.List.{length-set}
-use Rattle.spur_addr.specs.Address.{entry_address_of, page_of, table_start}
+use Rattle.spur_addr.specs.Address.{entry_address_of, page_of, table_start, page_address}
 use Rattle.spur_addr.specs.PageEntry.{number_of}
 use Rattle.spur_flat.specs.declared.access.FaultKind.{FaultKind}
 use Rattle.spur_flat.specs.declared.access.FaultKind.TheVariants as fault
@@ -14,11 +14,11 @@ use Rattle.spur_flat.specs.Pager.{word_of}
 use Rattle.spur_frames.specs.Frames.{Frames, least_free}
 use Rattle.spur_pager.specs.declared.fault.ServeFault.{ServeFault}
 use Rattle.spur_pager.specs.declared.fault.ServeFault.TheVariants as serve
-use Rattle.spur_pager.specs.Made.{IsMade}
+use Rattle.spur_flat.specs.Formed.{IsMade}
 use Rattle.spur_pager.specs.View.{View}
-use Rattle.spur_pager.specs.Stand.{AreCarried, Stands, entry_in, flat_in, page_address}
+use Rattle.spur_pager.specs.Stand.{AreCarried, Stands, entry_in, flat_in}
 use Rattle.spur_pager.specs.Acts.{Act, IsDone}
-use Rattle.spur_pager.specs.Course.{course_of, free_course, freeing, gained, leaving_course, until_leaving, victim_of}
+use Rattle.spur_pager.specs.Course.{service_of, free_service, freeing, gained, leaving_service, until_leaving, outgoing_frame}
 use Rattle.spur_pager.specs.Room.{room_for}
 use Rattle.spur_pager.specs.Runs.{Runs}
 use Rattle.spur_pager.specs.Served.{HasFailed, IsServed, Leaves, ServesAs, appended, hold_of}
@@ -49,17 +49,17 @@ until_same b w (Some frame) = record { first = refl; count = refl }
 freeing_same : (b : ℕ) (w : View) (o : Option ℕ) → HasSameFrames w.frames (freeing b w o).frames
 freeing_same b w None =
     let before = until_same b w w.frames.leaving in
-    record { first = before.first; count = length-set (leaving_course b w).frames.held (victim_of w - (leaving_course b w).frames.first) None ∙ before.count }
+    record { first = before.first; count = length-set (leaving_service b w).frames.held (outgoing_frame w - (leaving_service b w).frames.first) None ∙ before.count }
 freeing_same b w (Some frame) = record { first = refl; count = refl }
 
-same_frames : (b : ℕ) (w : View) (kind : FaultKind) (at : ℕ) (answer : Result (Unit {0}) ServeFault) → HasSameFrames w.frames (course_of b w kind at answer).frames
+same_frames : (b : ℕ) (w : View) (kind : FaultKind) (at : ℕ) (answer : Result (Unit {0}) ServeFault) → HasSameFrames w.frames (service_of b w kind at answer).frames
 same_frames b w fault.Reference at answer = record { first = refl; count = refl }
 same_frames b w fault.Dirty at answer = record { first = refl; count = refl }
-same_frames b w fault.Leaving at (Ok done) = record { first = refl; count = length-set w.frames.held (victim_of w - w.frames.first) None }
+same_frames b w fault.Leaving at (Ok done) = record { first = refl; count = length-set w.frames.held (outgoing_frame w - w.frames.first) None }
 same_frames b w fault.Leaving at (Err why) = record { first = refl; count = refl }
 same_frames b w fault.Missing at (Ok done) =
     let before = freeing_same b w (least_free w.frames) in
-    record { first = before.first; count = length-set (free_course b w).frames.held (gained b w - (free_course b w).frames.first) (Some (page_of at, number_of (entry_in w (page_of at)))) ∙ before.count }
+    record { first = before.first; count = length-set (free_service b w).frames.held (gained b w - (free_service b w).frames.first) (Some (page_of at, number_of (entry_in w (page_of at)))) ∙ before.count }
 same_frames b w fault.Missing at (Err serve.SwapRead) = freeing_same b w (least_free w.frames)
 same_frames b w fault.Missing at (Err serve.SwapWrite) = until_same b w w.frames.leaving
 same_frames b w fault.Align at answer = record { first = refl; count = refl }
@@ -70,10 +70,10 @@ few_used : (long x y n : ℕ) → y + long ≡ x → x ≤ y + n → long ≤ n
 few_used long x y n is used = omega arith
 
 -- acts that were done are all that is asked of a course
-pub served_as : (b : ℕ) (w v : View) (kind : FaultKind) (at : ℕ) (answer : Result (Unit {0}) ServeFault) → Runs b (course_of b w kind at answer).acts w v → w.room ≤ v.room + room_for w kind
-    → v.frames ≡ (course_of b w kind at answer).frames → Leaves b w kind at answer v → ServesAs b w kind at answer v
+pub served_as : (b : ℕ) (w v : View) (kind : FaultKind) (at : ℕ) (answer : Result (Unit {0}) ServeFault) → Runs b (service_of b w kind at answer).acts w v → w.room ≤ v.room + room_for w kind
+    → v.frames ≡ (service_of b w kind at answer).frames → Leaves b w kind at answer v → ServesAs b w kind at answer v
 served_as b w v kind at answer r used frames leaves =
-    let acts : List Act = (course_of b w kind at answer).acts in
+    let acts : List Act = (service_of b w kind at answer).acts in
     let is : r.piece ≡ appended w v = piece_is b acts w v r in
     let room : v.room + length (appended w v) ≡ w.room = ap (λ (es : List Entry). v.room + length es) (sym is) ∙ r.room in
     let same = same_frames b w kind at answer in

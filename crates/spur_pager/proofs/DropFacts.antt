@@ -15,7 +15,7 @@ use Rattle.spur_flat.specs.Untold.{IsCarriedUntold}
 use Rattle.spur_flat.specs.Validity.{IsValidFlat}
 use Rattle.spur_bus.specs.Boards.{dropped, dropped_lines, line_in, line_of_block}
 use Rattle.spur_bus.specs.Logical.{logical_words}
-use Rattle.spur_bus.specs.Agrees.{Agrees, Serves}
+use Rattle.spur_bus.specs.Agrees.{Agrees, AgreesWithMemory}
 use Rattle.spur_bus.specs.Calls.{HasLine, MovesTags, flushed, line_count, tags_of}
 use Rattle.spur_bus.specs.Stand.{Moves, state_of}
 use Rattle.spur_bus.proofs.AllowFacts.{flush-tagged}
@@ -27,8 +27,9 @@ use Rattle.spur_walk.specs.Present.{ArePresent, MayWalk}
 use Rattle.spur_walk.specs.Tables.{HasTables, StandsIn, logical_flat}
 use Rattle.spur_walk.proofs.StepFacts.{present_all, same_flat, suits_all}
 use Rattle.spur_pager.specs.View.{View}
-use Rattle.spur_pager.specs.Stand.{AreClean, AreFramed, Stands, flat_in, standing_flat, standing_state, with_told}
-use Rattle.spur_pager.specs.Made.{IsMade}
+use Rattle.spur_pager.specs.Stand.{AreFramed, Stands, flat_in, standing_flat, standing_state, with_told}
+use Rattle.spur_flat.specs.Clean.{AreClean}
+use Rattle.spur_flat.specs.Formed.{IsMade}
 use Rattle.spur_pager.specs.Served.{Keeps}
 use Rattle.spur_pager.specs.Served as served
 use Rattle.spur_pager.specs.Drops.{DropsBlock, IsLeavingBlock}
@@ -41,7 +42,7 @@ pub record IsDropped (holder g : ℕ) (w v : View) (e : Entry) : Type 0 where
   pub caches : v.caches ≡ dropped w.caches holder g
   pub memory : v.memory ≡ flushed w.memory g (line_of_block w.caches holder g)
   pub agree : Agrees v.caches
-  pub serves : Serves v.caches v.memory
+  pub serves : AgreesWithMemory v.caches v.memory
   pub logical : logical_words v.caches v.memory ≡ logical_words w.caches w.memory
   pub lines : line_count v.caches ≡ line_count w.caches
   pub size : length v.memory ≡ length w.memory

@@ -5,7 +5,7 @@ use Rattle.std.proofs.lemmas.List.{drop-set-lt}
 use Rattle.std.specs.List.{list_any}
 use Rattle.std.specs.Prelude.{IfSome, IsSome}
 use Rattle.std.proofs.lemmas.Nat.{shr-shr}
-use Rattle.spur_addr.specs.Address.{page_of, table_start}
+use Rattle.spur_addr.specs.Address.{page_of, table_start, page_address, user_pages}
 use Rattle.spur_addr.specs.PageEntry.{is_dirty, is_leaving, is_on_swap, is_valid, number_of}
 use Rattle.spur_flat.specs.declared.flat.Flat.{Flat}
 use Rattle.spur_flat.specs.Pager.{entry_place, is_declared, position_in, word_of}
@@ -14,9 +14,10 @@ use Rattle.spur_flat.specs.Validity.{IsDataFrame, IsDeclared, IsValidFlat}
 use Rattle.spur_flat.proofs.PagerFacts.{declared_stands, frame_of}
 use Rattle.spur_flat.proofs.TableFacts.{place_bounds}
 use Rattle.spur_frames.specs.Frames.{AreFrames, Frames, IsFrame, IsTaken, IsTakenOf, holder_of}
-use Rattle.spur_frames.specs.Clock.{page_held, page_in}
+use Rattle.spur_frames.specs.Clock.{page_held, page_of_frame}
 use Rattle.spur_walk.proofs.ValidFacts.{entry_is, tables}
-use Rattle.spur_pager.specs.Stand.{AreClean, AreFramed, HoldsPage, page_address, user_pages}
+use Rattle.spur_pager.specs.Stand.{AreFramed, FrameHolds}
+use Rattle.spur_flat.specs.Clean.{AreClean}
 use Rattle.spur_pager.proofs.MarkFacts.{IsMarked}
 use Rattle.spur_pager.proofs.PlaceFacts.{IsPlace, placed, word_other, word_same, word_page}
 
@@ -119,7 +120,7 @@ same_leaving F g new page e leaving small =
     (λ (apart : page ≢ page_of g). ap (λ (n : ℕ). is_leaving n) (e.others page small apart))
     (cases_eq page (page_of g))
 
-pub holds_still : (F : Flat) (g new frame page slot : ℕ) → Entries F g new → IsMarked (word_of F g) new → HoldsPage F frame page slot → HoldsPage (placed F g new) frame page slot
+pub holds_still : (F : Flat) (g new frame page slot : ℕ) → Entries F g new → IsMarked (word_of F g) new → FrameHolds F frame page slot → FrameHolds (placed F g new) frame page slot
 holds_still F g new frame page slot e marked h =
     let s = steady F g new page e marked h.small in
     record { small = h.small; declared = h.declared; slot_is = h.slot_is; valid = s.valid ∙ h.valid; number = s.number ∙ h.number }
@@ -135,7 +136,7 @@ pub leaving_taken : (frames : Frames) (frame : ℕ) → AreFrames frames → fra
 leaving_taken frames frame table is = subst (λ (o : Option ℕ). IfSome o (IsTakenOf frames.first frames.held)) is table.leaving
 
 -- its page is one below segment 255
-pub leaving_page : (F : Flat) (frames : Frames) (frame : ℕ) → AreFramed F frames → IsFrame frames frame → IsSome (holder_of frames frame) → page_in frames frame < user_pages
+pub leaving_page : (F : Flat) (frames : Frames) (frame : ℕ) → AreFramed F frames → IsFrame frames frame → IsSome (holder_of frames frame) → page_of_frame frames frame < user_pages
 leaving_page F frames frame ok is taken = held_page (holder_of frames frame) refl taken
   where
     held_page : (o : Option (ℕ × ℕ)) → holder_of frames frame ≡ o → IsSome o → page_held o < user_pages
@@ -144,7 +145,7 @@ leaving_page F frames frame ok is taken = held_page (holder_of frames frame) ref
 
 -- a bit other than the leaving one is marked: the frame table is that of the pages
 pub framed_marked : (F : Flat) (frames : Frames) (g new : ℕ) → IsAbove F g → IsMarked (word_of F g) new → is_leaving new ≡ is_leaving (word_of F g)
-    → ((frame : ℕ) → frames.leaving ≡ Some frame → page_in frames frame < user_pages) → AreFramed F frames → AreFramed (placed F g new) frames
+    → ((frame : ℕ) → frames.leaving ≡ Some frame → page_of_frame frames frame < user_pages) → AreFramed F frames → AreFramed (placed F g new) frames
 framed_marked F frames g new a marked leaving in_user ok =
     let e = entries F g new a in
     record {
@@ -152,7 +153,7 @@ framed_marked F frames g new a marked leaving in_user ok =
       count = ok.count;
       taken = λ (frame page slot : ℕ) (is : IsFrame frames frame) (holds : holder_of frames frame ≡ Some (page, slot)). holds_still F g new frame page slot e marked (ok.taken frame page slot is holds);
       holds = λ (page : ℕ) (small : page < user_pages) (valid : is_valid (word_of (placed F g new) (page_address page)) ≡ true). held_still F frames g new page e marked ok small valid;
-      leaving = λ (frame : ℕ) (is : frames.leaving ≡ Some frame). same_leaving F g new (page_in frames frame) e leaving (in_user frame is) ∙ ok.leaving frame is;
+      leaving = λ (frame : ℕ) (is : frames.leaving ≡ Some frame). same_leaving F g new (page_of_frame frames frame) e leaving (in_user frame is) ∙ ok.leaving frame is;
       leaves = λ (page : ℕ) (small : page < user_pages) (valid : is_valid (word_of (placed F g new) (page_address page)) ≡ true) (is : is_leaving (word_of (placed F g new) (page_address page)) ≡ true).
           ok.leaves page small (sym (steady F g new page e marked small).valid ∙ valid) (sym (same_leaving F g new page e leaving small) ∙ is) ∙ ap (λ (n : ℕ). Some n) (sym (steady F g new page e marked small).number);
     }

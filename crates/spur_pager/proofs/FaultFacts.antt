@@ -1,6 +1,6 @@
 -- A Reference or a Dirty fault is served by one bit.
 use Rattle.std.proofs.Common.{◌≡◌, ◌≤◌, ◌∙◌, ℕ, ◌+◌, ◌<◌, ◌&&◌, Bool, true, false, not, ap, sym, refl, subst, [], ◌∷◌, length, Option, Some, None, Ok}
-use Rattle.spur_addr.specs.Address.{entry_address_of, page_of, table_start}
+use Rattle.spur_addr.specs.Address.{entry_address_of, page_of, table_start, page_address}
 use Rattle.spur_addr.specs.PageEntry.{is_dirty, is_leaving, is_referenced, is_valid, protection_of}
 use Rattle.spur_addr.specs.declared.page_entry.Protection.{Protection}
 use Rattle.spur_addr.specs.declared.page_entry.Protection.TheVariants.{Nothing, ReadOnly, ReadWrite}
@@ -18,9 +18,9 @@ use Rattle.spur_walk.proofs.AnswerFacts.{fault-applies}
 use Rattle.spur_pager.specs.declared.change.Change.{Change}
 use Rattle.spur_pager.specs.declared.change.Change.TheVariants.{Referenced, Dirty}
 use Rattle.spur_pager.specs.View.{View}
-use Rattle.spur_pager.specs.Stand.{Stands, entry_in, flat_in, page_address, standing_flat}
+use Rattle.spur_pager.specs.Stand.{Stands, entry_in, flat_in, standing_flat}
 use Rattle.spur_pager.specs.Acts.{Writes}
-use Rattle.spur_pager.specs.Changes.{changed, entry_for, word_in}
+use Rattle.spur_pager.specs.Changes.{changed_word, entry_for, entry_word}
 use Rattle.spur_pager.specs.Room.{entry_room}
 use Rattle.spur_pager.specs.Served.{HasFault, ServesAs, hold_of, word_after}
 use Rattle.spur_pager.proofs.CourseFacts.{entry_at, same_entry_address, served_as}
@@ -32,19 +32,19 @@ use Rattle.spur_pager.proofs.PlaceFacts.{word_page}
 use Rattle.std.proofs.lemmas.Bool.{and_parts}
 
 -- the mark of a bit is all that is asked
-marked_served : (b : ℕ) (w v : View) (at : ℕ) (change : Change) → IsMarked b (page_address (page_of at)) change w v → (word : ℕ) → changed change (entry_in w (page_of at)) ≡ word
+marked_served : (b : ℕ) (w v : View) (at : ℕ) (change : Change) → IsMarked b (page_address (page_of at)) change w v → (word : ℕ) → changed_word change (entry_in w (page_of at)) ≡ word
     → (entry_in v (page_of at) ≡ word) × (word_of (flat_in v) at ≡ word) × HasLine v.caches b (entry_address_of at) is_exclusive
 marked_served b w v at change m word is =
     let now : entry_in v (page_of at) ≡ word = m.word ∙ is in
     (now, sym (entry_at v at) ∙ now, subst (λ (n : ℕ). HasLine v.caches b n is_exclusive) (same_entry_address at) m.exclusive)
 
-pub reference_served : (b : ℕ) (w v : View) (at : ℕ) → Runs b (Writes (page_address (page_of at)) (entry_for Referenced b (page_address (page_of at))) (changed Referenced) ∷ []) w v
+pub reference_served : (b : ℕ) (w v : View) (at : ℕ) → Runs b (Writes (page_address (page_of at)) (entry_for Referenced b (page_address (page_of at))) (changed_word Referenced) ∷ []) w v
     → IsMarked b (page_address (page_of at)) Referenced w v → w.room ≤ v.room + entry_room → v.frames ≡ w.frames → ServesAs b w fault.Reference at (Ok (tt {0})) v
 reference_served b w v at r m used frames =
     let is = marked_served b w v at Referenced m (word_after b w fault.Reference at) refl in
     served_as b w v fault.Reference at (Ok (tt {0})) r used frames (record { word = is.0; walk = is.1; exclusive = is.2; free = λ h. cc })
 
-pub dirty_served : (b : ℕ) (w v : View) (at : ℕ) → Runs b (Writes (page_address (page_of at)) (entry_for Dirty b (page_address (page_of at))) (changed Dirty) ∷ []) w v
+pub dirty_served : (b : ℕ) (w v : View) (at : ℕ) → Runs b (Writes (page_address (page_of at)) (entry_for Dirty b (page_address (page_of at))) (changed_word Dirty) ∷ []) w v
     → IsMarked b (page_address (page_of at)) Dirty w v → w.room ≤ v.room + entry_room → v.frames ≡ w.frames → ServesAs b w fault.Dirty at (Ok (tt {0})) v
 dirty_served b w v at r m used frames =
     let is = marked_served b w v at Dirty m (word_after b w fault.Dirty at) refl in
@@ -107,7 +107,7 @@ reference_may w some b at st within user f =
       user = user_g;
       starts = page_starts (page_of at);
       within = within;
-      valid = (and_parts (is_valid (word_in (hold_of w) g)) (not (is_referenced (word_in (hold_of w) g))) (here some st)).0;
+      valid = (and_parts (is_valid (entry_word (hold_of w) g)) (not (is_referenced (entry_word (hold_of w) g))) (here some st)).0;
       allowed = λ (rest : Flat) (s : Stands rest w).
           let F : Flat = standing_flat rest w in
           record { declared = valid_declared F g s.valid user_g ((and_parts (is_valid (word_of F g)) (not (is_referenced (word_of F g))) (here rest s)).0); entry = here rest s };
@@ -124,8 +124,8 @@ dirty_may w some b at st within user f =
       user = user_g;
       starts = page_starts (page_of at);
       within = within;
-      valid = (and_parts (is_valid (word_in (hold_of w) g)) (not (is_dirty (word_in (hold_of w) g)))
-          ((and_parts (is_valid (word_in (hold_of w) g) && not (is_dirty (word_in (hold_of w) g))) (is_read_write (protection_of (word_in (hold_of w) g))) (here some st)).0)).0;
+      valid = (and_parts (is_valid (entry_word (hold_of w) g)) (not (is_dirty (entry_word (hold_of w) g)))
+          ((and_parts (is_valid (entry_word (hold_of w) g) && not (is_dirty (entry_word (hold_of w) g))) (is_read_write (protection_of (entry_word (hold_of w) g))) (here some st)).0)).0;
       allowed = λ (rest : Flat) (s : Stands rest w).
           let F : Flat = standing_flat rest w in
           record {

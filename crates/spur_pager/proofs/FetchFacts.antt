@@ -32,9 +32,9 @@ use Rattle.spur_walk.specs.Steps.{Steps, answer_of, stepped, stepped_memory, tag
 use Rattle.spur_walk.specs.Tables.{HasTablesOf, block_address, logical_flat, root_at}
 use Rattle.spur_walk.proofs.FallFacts.{page-fall}
 use Rattle.spur_walk.proofs.ServeFacts.{page-served}
-use Rattle.spur_pager.specs.Past.{Past}
+use Rattle.spur_flat.specs.Past.{Past}
 use Rattle.spur_pager.specs.Acts.{Hold, IsWay, Stays, Goes}
-use Rattle.spur_pager.specs.Made.{IsMade}
+use Rattle.spur_flat.specs.Formed.{IsMade}
 use Rattle.spur_pager.specs.Fetch.{Fetches, Leads, Went}
 use Rattle.spur_pager.proofs.MadeFacts.{step_made}
 use Rattle.spur_pager.proofs.UserFacts.{user_was}

@@ -3,7 +3,7 @@ use Rattle.std.proofs.Common.{◌≡◌, ◌≢◌, ◌∙◌, ℕ, zero, suc, �
 use Rattle.std.specs.Prelude.{is_none, ◌&&◌, Bool, IsSome, OnErr, OnOk, Result, Ok, Err}
 use Rattle.std.proofs.lemmas.List.{get_or-set_same}
 use Rattle.std.proofs.lemmas.List as L
-use Rattle.spur_addr.specs.Address.{entry_address_of}
+use Rattle.spur_addr.specs.Address.{entry_address_of, page_address, user_pages}
 use Rattle.spur_addr.specs.PageEntry.{is_dirty, is_leaving, is_valid, number_of, protection_of, swapped_of}
 use Rattle.spur_cache.specs.declared.line.Line.{Line}
 use Rattle.spur_flat.specs.declared.flat.Flat.{Flat}
@@ -13,15 +13,15 @@ use Rattle.spur_snoop.specs.Protocol.{is_exclusive}
 use Rattle.spur_bus.specs.Calls.{HasLine}
 use Rattle.spur_bus.specs.Stand.{state_of}
 use Rattle.spur_frames.specs.Frames.{AreFrames, Frames, IsFrame, IsFree, IsTaken, free_from, holder_of, least_free, looked_at, release_frame}
-use Rattle.spur_frames.specs.Clock.{page_held, page_in}
+use Rattle.spur_frames.specs.Clock.{page_held, page_of_frame}
 use Rattle.spur_frames.proofs.FreeFacts.{none-is-free, none-is-taken}
 use Rattle.spur_walk.specs.Tables.{logical_flat}
 use Rattle.spur_walk.proofs.StepFacts.{same_flat}
 use Rattle.spur_pager.specs.View.{View}
-use Rattle.spur_pager.specs.Stand.{HoldsPage, IsServable, Stands, entry_in, page_address, standing_flat, standing_state, user_pages, with_told}
+use Rattle.spur_pager.specs.Stand.{FrameHolds, IsServable, Stands, entry_in, standing_flat, standing_state, with_told}
 use Rattle.spur_pager.specs.Acts.{Act, Flushes, page_out}
-use Rattle.spur_pager.specs.Course.{finish_acts, flush_acts, frame_held, free_course, freeing, leaving_course, number_or_zero, slot_held, slot_in, turn_of, until_leaving, victim_by, victim_of}
-use Rattle.spur_pager.specs.Room.{clock_room, entry_room, free_room, lines_of}
+use Rattle.spur_pager.specs.Course.{finish_acts, flush_acts, frame_held, free_service, freeing, leaving_service, number_or_zero, slot_held, slot_in, turn_of, until_leaving, outgoing_by, outgoing_frame}
+use Rattle.spur_pager.specs.Room.{clock_room, entry_room, free_room, page_line_count}
 use Rattle.spur_pager.specs.Runs.{Runs}
 use Rattle.spur_pager.specs.Counts.{Counts, CountsFinish, CountsOut, count_if}
 use Rattle.spur_pager.specs.Served.{CountsFreeing, IsStillLeaving, has_written, hold_of, tells, writes_to_free}
@@ -100,7 +100,7 @@ pub record IsOfLeaving (w : View) (frame page slot : ℕ) : Type 0 where
   pub held : holder_of w.frames frame ≡ Some (page, slot)
   pub leaving : w.frames.leaving ≡ Some frame
 
-pub leaving_holds : (rest : Flat) (w : View) (frame page slot : ℕ) → Stands rest w → IsOfLeaving w frame page slot → HoldsPage (standing_flat rest w) frame page slot
+pub leaving_holds : (rest : Flat) (w : View) (frame page slot : ℕ) → Stands rest w → IsOfLeaving w frame page slot → FrameHolds (standing_flat rest w) frame page slot
 leaving_holds rest w frame page slot st l = st.framed.taken frame page slot (record { low = l.taken.low; high = l.taken.high }) l.held
 
 pub leaving_is : (rest : Flat) (w : View) (frame page slot : ℕ) → Stands rest w → IsOfLeaving w frame page slot → IsLeavingPage w page
@@ -137,17 +137,17 @@ finish_room_left n x y z used more = omega arith
 
 pub finished : (rest : Flat) (w u v : View) (b frame page slot : ℕ) → Stands rest w → IsOfLeaving w frame page slot → FlushesPage b page w u → u.frames ≡ w.frames → GoesOut b frame page slot u v → Finishes b frame w v
 finished rest w u v b frame page slot st l f frames out =
-    let page_is : page ≡ page_in w.frames frame = sym (ap page_held l.held) in
+    let page_is : page ≡ page_of_frame w.frames frame = sym (ap page_held l.held) in
     let slot_is : slot ≡ slot_in w.frames frame = sym (ap slot_held l.held) in
     let is = leaving_is rest w frame page slot st l in
     let acts : Flushes page ∷ page_out b page slot ∷ [] ≡ finish_acts b w.frames frame =
-    ap (λ (p : ℕ). Flushes p ∷ page_out b p slot ∷ []) page_is ∙ ap (λ (s : ℕ). Flushes (page_in w.frames frame) ∷ page_out b (page_in w.frames frame) s ∷ []) slot_is in
+    ap (λ (p : ℕ). Flushes p ∷ page_out b p slot ∷ []) page_is ∙ ap (λ (s : ℕ). Flushes (page_of_frame w.frames frame) ∷ page_out b (page_of_frame w.frames frame) s ∷ []) slot_is in
     record {
       runs = subst (λ (done : List Act). Runs b done w v) acts (runs_then b (Flushes page ∷ []) (page_out b page slot ∷ []) w u v f.runs out.runs);
       frames = out.frames ∙ ap (λ (fs : Frames). release_frame fs frame) frames;
-      room = subst (λ (p : ℕ). w.room ≤ v.room + (lines_of w.caches p + 5)) page_is (finish_room_left (lines_of w.caches page) w.room u.room v.room f.room out.room);
+      room = subst (λ (p : ℕ). w.room ≤ v.room + (page_line_count w.caches p + 5)) page_is (finish_room_left (page_line_count w.caches page) w.room u.room v.room f.room out.room);
       word = ap (entry_in v) (sym page_is) ∙ out.word ∙ ap (λ (e : ℕ). swapped_of slot (protection_of e)) (same_entries w u b page page f ∙ ap (entry_in w) page_is)
-          ∙ ap (λ (s : ℕ). swapped_of s (protection_of (entry_in w (page_in w.frames frame)))) slot_is;
+          ∙ ap (λ (s : ℕ). swapped_of s (protection_of (entry_in w (page_of_frame w.frames frame)))) slot_is;
       absent = λ (other : ℕ) (small : other < user_pages) (absent : is_valid (entry_in w other) ≡ false).
           out.others other small (other_page w page other is.valid absent) ∙ same_entries w u b page other f;
       exclusive = subst (λ (p : ℕ). HasLine v.caches b (entry_address_of (page_address p)) is_exclusive) page_is out.exclusive;
@@ -155,12 +155,12 @@ finished rest w u v b frame page slot st l f frames out =
 
 pub not_finished : (w u v : View) (b frame page slot : ℕ) → IsOfLeaving w frame page slot → FlushesPage b page w u → u.frames ≡ w.frames → u.faults ≡ w.faults → FailsToGoOut page u v → FailsToFinish b frame w v
 not_finished w u v b frame page slot l f frames faults out =
-    let page_is : page ≡ page_in w.frames frame = sym (ap page_held l.held) in
+    let page_is : page ≡ page_of_frame w.frames frame = sym (ap page_held l.held) in
     record {
       runs = subst (λ (p : ℕ). Runs b (Flushes p ∷ []) w v) page_is (runs_then b (Flushes page ∷ []) [] w u v f.runs (failed_runs b u v out.failed));
       frames = out.failed.frames ∙ frames;
-      room = subst (λ (p : ℕ). w.room ≤ v.room + lines_of w.caches p) page_is (left (lines_of w.caches page) w.room u.room v.room f.room out.failed.room);
-      none = subst (λ (p : ℕ). lines_of v.caches p ≡ 0) page_is (ap (λ (cs : List (List (Option Line))). lines_of cs page) out.failed.caches ∙ f.none);
+      room = subst (λ (p : ℕ). w.room ≤ v.room + page_line_count w.caches p) page_is (left (page_line_count w.caches page) w.room u.room v.room f.room out.failed.room);
+      none = subst (λ (p : ℕ). page_line_count v.caches p ≡ 0) page_is (ap (λ (cs : List (List (Option Line))). page_line_count cs page) out.failed.caches ∙ f.none);
       word = subst (λ (p : ℕ). entry_in v p ≡ entry_in w p) page_is (failed_entry u v page out.failed ∙ same_entries w u b page page f);
       dirty = subst (λ (p : ℕ). is_dirty (entry_in w p) ≡ true) page_is (ap (λ (e : ℕ). is_dirty e) (sym (same_entries w u b page page f)) ∙ out.dirty);
       rose = subst (λ (n : ℕ). n < v.faults) faults out.failed.rose;
@@ -177,13 +177,13 @@ pub was_leaving : (b : ℕ) (w : View) (frame : ℕ) → w.frames.leaving ≡ So
 was_leaving b w frame is taken = record {
   runs = subst (λ (o : Option ℕ). Runs b (until_leaving b w o).acts w w) (sym is) (nothing_runs b w);
   frames = sym (ap (λ (o : Option ℕ). (until_leaving b w o).frames) is);
-  is = sym (ap (λ (o : Option ℕ). victim_by o (turn_of w).leaves) is);
+  is = sym (ap (λ (o : Option ℕ). outgoing_by o (turn_of w).leaves) is);
   leaving = is;
   taken = taken;
   room = at_least w.room (clock_room w w.frames.leaving);
   absent = λ (page : ℕ) (small : page < user_pages) (absent : is_valid (entry_in w page) ≡ false). refl;
   dirty = λ (page : ℕ) (small : page < user_pages). refl;
-  lines = λ (page : ℕ) (small : page < user_pages). same_least (lines_of w.caches page);
+  lines = λ (page : ℕ) (small : page < user_pages). same_least (page_line_count w.caches page);
 }
   where
     same_least : (m : ℕ) → m ≤ m
@@ -194,7 +194,7 @@ pub is_leaving_now : (b : ℕ) (w v : View) (frame : ℕ) → w.frames.leaving �
 is_leaving_now b w v frame none c is taken = record {
   runs = subst (λ (o : Option ℕ). Runs b (until_leaving b w o).acts w v) (sym none) c.runs;
   frames = c.frames ∙ sym (ap (λ (o : Option ℕ). (until_leaving b w o).frames) none);
-  is = some_same frame (frame_held (turn_of w).leaves) (sym is ∙ ap (λ (fs : Frames). fs.leaving) c.frames) ∙ sym (ap (λ (o : Option ℕ). victim_by o (turn_of w).leaves) none);
+  is = some_same frame (frame_held (turn_of w).leaves) (sym is ∙ ap (λ (fs : Frames). fs.leaving) c.frames) ∙ sym (ap (λ (o : Option ℕ). outgoing_by o (turn_of w).leaves) none);
   leaving = is;
   taken = taken;
   room = subst (λ (o : Option ℕ). w.room ≤ v.room + clock_room w o) (sym none) c.room;
@@ -224,34 +224,34 @@ same_held : (b : ℕ) (w : View) (o : Option ℕ) → (until_leaving b w o).fram
 same_held b w None = refl
 same_held b w (Some frame) = refl
 
-pub same_holder : (b : ℕ) (w u : View) (frame : ℕ) → HasLeaving b w u frame → holder_of u.frames frame ≡ holder_of w.frames (victim_of w)
+pub same_holder : (b : ℕ) (w u : View) (frame : ℕ) → HasLeaving b w u frame → holder_of u.frames frame ≡ holder_of w.frames (outgoing_frame w)
 same_holder b w u frame l =
     ap (λ (fs : Frames). get_or fs.held (frame - fs.first) None) l.frames
-    ∙ ap (λ (n : ℕ). get_or (leaving_course b w).frames.held (frame - n) None) (same_first b w w.frames.leaving)
+    ∙ ap (λ (n : ℕ). get_or (leaving_service b w).frames.held (frame - n) None) (same_first b w w.frames.leaving)
     ∙ ap (λ (held : List (Option (ℕ × ℕ))). get_or held (frame - w.frames.first) None) (same_held b w w.frames.leaving)
     ∙ ap (λ (n : ℕ). holder_of w.frames n) l.is
 
-pub same_page : (b : ℕ) (w u : View) (frame : ℕ) → HasLeaving b w u frame → page_in u.frames frame ≡ page_in w.frames (victim_of w)
+pub same_page : (b : ℕ) (w u : View) (frame : ℕ) → HasLeaving b w u frame → page_of_frame u.frames frame ≡ page_of_frame w.frames (outgoing_frame w)
 same_page b w u frame l = ap page_held (same_holder b w u frame l)
 
-same_slot : (b : ℕ) (w u : View) (frame : ℕ) → HasLeaving b w u frame → slot_in u.frames frame ≡ slot_in w.frames (victim_of w)
+same_slot : (b : ℕ) (w u : View) (frame : ℕ) → HasLeaving b w u frame → slot_in u.frames frame ≡ slot_in w.frames (outgoing_frame w)
 same_slot b w u frame l = ap slot_held (same_holder b w u frame l)
 
 -- the page of the frame that is leaving now is one below segment 255
-leaving_small : (b : ℕ) (w u : View) (frame : ℕ) → IsServable w → HasLeaving b w u frame → page_in u.frames frame < user_pages
+leaving_small : (b : ℕ) (w u : View) (frame : ℕ) → IsServable w → HasLeaving b w u frame → page_of_frame u.frames frame < user_pages
 leaving_small b w u frame s l =
     let st = (l.runs.carries s.rest s.stands).stands in
     leaving_page (standing_flat s.rest u) u.frames frame st.framed (record { low = l.taken.low; high = l.taken.high }) l.taken.taken
 
 -- which has no more lines than it had
-fewer_lines : (b : ℕ) (w u : View) (frame : ℕ) → IsServable w → HasLeaving b w u frame → lines_of u.caches (page_in u.frames frame) ≤ lines_of w.caches (page_in w.frames (victim_of w))
+fewer_lines : (b : ℕ) (w u : View) (frame : ℕ) → IsServable w → HasLeaving b w u frame → page_line_count u.caches (page_of_frame u.frames frame) ≤ page_line_count w.caches (page_of_frame w.frames (outgoing_frame w))
 fewer_lines b w u frame s l =
-    subst (λ (p : ℕ). lines_of u.caches (page_in u.frames frame) ≤ lines_of w.caches p) (same_page b w u frame l) (l.lines (page_in u.frames frame) (leaving_small b w u frame s l))
+    subst (λ (p : ℕ). page_line_count u.caches (page_of_frame u.frames frame) ≤ page_line_count w.caches p) (same_page b w u frame l) (l.lines (page_of_frame u.frames frame) (leaving_small b w u frame s l))
 
-pub room_to_finish : (b : ℕ) (w u : View) (frame : ℕ) → IsServable w → least_free w.frames ≡ None → HasLeaving b w u frame → free_room w (least_free w.frames) ≤ w.room → lines_of u.caches (page_in u.frames frame) + entry_room ≤ u.room
+pub room_to_finish : (b : ℕ) (w u : View) (frame : ℕ) → IsServable w → least_free w.frames ≡ None → HasLeaving b w u frame → free_room w (least_free w.frames) ≤ w.room → page_line_count u.caches (page_of_frame u.frames frame) + entry_room ≤ u.room
 room_to_finish b w u frame s full l enough =
     let needed : free_room w None ≤ w.room = subst (λ (o : Option ℕ). free_room w o ≤ w.room) full enough in
-    left (clock_room w w.frames.leaving) (lines_of w.caches (page_in w.frames (victim_of w))) (lines_of u.caches (page_in u.frames frame)) w.room u.room needed l.room (fewer_lines b w u frame s l)
+    left (clock_room w w.frames.leaving) (page_line_count w.caches (page_of_frame w.frames (outgoing_frame w))) (page_line_count u.caches (page_of_frame u.frames frame)) w.room u.room needed l.room (fewer_lines b w u frame s l)
   where
     left : (c m n x y : ℕ) → c + (m + 5) ≤ x → x ≤ y + c → n ≤ m → n + 5 ≤ y
     left c m n x y needed used fewer = omega arith
@@ -268,10 +268,10 @@ was_free b w frame is free = record {
   absent = λ (page : ℕ) (small : page < user_pages) (absent : is_valid (entry_in w page) ≡ false). refl;
 }
 
-finish_acts_same : (b : ℕ) (w u : View) (frame : ℕ) → HasLeaving b w u frame → finish_acts b u.frames frame ≡ finish_acts b w.frames (victim_of w)
+finish_acts_same : (b : ℕ) (w u : View) (frame : ℕ) → HasLeaving b w u frame → finish_acts b u.frames frame ≡ finish_acts b w.frames (outgoing_frame w)
 finish_acts_same b w u frame l =
     ap (λ (p : ℕ). Flushes p ∷ page_out b p (slot_in u.frames frame) ∷ []) (same_page b w u frame l)
-    ∙ ap (λ (s : ℕ). Flushes (page_in w.frames (victim_of w)) ∷ page_out b (page_in w.frames (victim_of w)) s ∷ []) (same_slot b w u frame l)
+    ∙ ap (λ (s : ℕ). Flushes (page_of_frame w.frames (outgoing_frame w)) ∷ page_out b (page_of_frame w.frames (outgoing_frame w)) s ∷ []) (same_slot b w u frame l)
 
 -- the least free frame of a full table of which one was released
 one_free : (k : ℕ) (held : List (Option (ℕ × ℕ))) (i : ℕ) → free_from k held ≡ None → i < length held → free_from k (slice_set held i None) ≡ Some (k + i)
@@ -302,7 +302,7 @@ released_is_free frames frame t =
 still_full : (b : ℕ) (w u : View) (frame : ℕ) → least_free w.frames ≡ None → HasLeaving b w u frame → least_free u.frames ≡ None
 still_full b w u frame full l =
     ap (λ (fs : Frames). free_from fs.first fs.held) l.frames
-    ∙ ap (λ (n : ℕ). free_from n (leaving_course b w).frames.held) (same_first b w w.frames.leaving)
+    ∙ ap (λ (n : ℕ). free_from n (leaving_service b w).frames.held) (same_first b w w.frames.leaving)
     ∙ ap (λ (held : List (Option (ℕ × ℕ))). free_from w.frames.first held) (same_held b w w.frames.leaving)
     ∙ full
 
@@ -310,19 +310,19 @@ still_full b w u frame full l =
 pub freed : (b : ℕ) (w u v : View) (leaving : ℕ) → IsServable w → least_free w.frames ≡ None → HasLeaving b w u leaving → Finishes b leaving u v → Frees b w v leaving
 freed b w u v leaving s full l f =
     let frames : v.frames ≡ (freeing b w None).frames =
-    f.frames ∙ ap (λ (fs : Frames). release_frame fs leaving) l.frames ∙ ap (λ (n : ℕ). release_frame (leaving_course b w).frames n) l.is in
-    let course : (freeing b w None).frames ≡ (free_course b w).frames = sym (ap (λ (o : Option ℕ). (freeing b w o).frames) full) in
+    f.frames ∙ ap (λ (fs : Frames). release_frame fs leaving) l.frames ∙ ap (λ (n : ℕ). release_frame (leaving_service b w).frames n) l.is in
+    let course : (freeing b w None).frames ≡ (free_service b w).frames = sym (ap (λ (o : Option ℕ). (freeing b w o).frames) full) in
     let least : least_free v.frames ≡ Some leaving = ap (λ (fs : Frames). least_free fs) f.frames ∙ released_least u.frames leaving l.taken (still_full b w u leaving full l) in
     record {
       runs = subst (λ (o : Option ℕ). Runs b (freeing b w o).acts w v) (sym full)
-          (subst (λ (done : List Act). Runs b ((leaving_course b w).acts ++ done) w v) (finish_acts_same b w u leaving l)
-          (runs_then b (leaving_course b w).acts (finish_acts b u.frames leaving) w u v l.runs f.runs));
+          (subst (λ (done : List Act). Runs b ((leaving_service b w).acts ++ done) w v) (finish_acts_same b w u leaving l)
+          (runs_then b (leaving_service b w).acts (finish_acts b u.frames leaving) w u v l.runs f.runs));
       frames = frames ∙ course;
       is = some_number leaving (least_free v.frames) least ∙ ap (λ (fs : Frames). number_or_zero (least_free fs)) (frames ∙ course);
       least = least;
       free = subst (λ (fs : Frames). IsFree fs leaving) (sym f.frames) (released_is_free u.frames leaving l.taken);
       room = subst (λ (o : Option ℕ). w.room ≤ v.room + free_room w o) (sym full)
-          (sum (clock_room w w.frames.leaving) (lines_of w.caches (page_in w.frames (victim_of w))) (lines_of u.caches (page_in u.frames leaving)) w.room u.room v.room l.room f.room (fewer_lines b w u leaving s l));
+          (sum (clock_room w w.frames.leaving) (page_line_count w.caches (page_of_frame w.frames (outgoing_frame w))) (page_line_count u.caches (page_of_frame u.frames leaving)) w.room u.room v.room l.room f.room (fewer_lines b w u leaving s l));
       absent = λ (page : ℕ) (small : page < user_pages) (absent : is_valid (entry_in w page) ≡ false).
           let one = l.absent page small absent in
           f.absent page small (ap (λ (e : ℕ). is_valid e) one ∙ absent) ∙ one;
@@ -351,10 +351,10 @@ still_leaving b w u v leaving s l f =
     let same = same_page b w u leaving l in
     let held = holds_some (holder_of u.frames leaving) l.taken.taken in
     let h = st.framed.taken leaving held.page held.slot (record { low = l.taken.low; high = l.taken.high }) held.is in
-    let page_is : held.page ≡ page_in w.frames (victim_of w) = sym (ap page_held held.is) ∙ same in
-    let word : entry_in v (page_in w.frames (victim_of w)) ≡ entry_in u (page_in w.frames (victim_of w)) = subst (λ (p : ℕ). entry_in v p ≡ entry_in u p) same f.word in
+    let page_is : held.page ≡ page_of_frame w.frames (outgoing_frame w) = sym (ap page_held held.is) ∙ same in
+    let word : entry_in v (page_of_frame w.frames (outgoing_frame w)) ≡ entry_in u (page_of_frame w.frames (outgoing_frame w)) = subst (λ (p : ℕ). entry_in v p ≡ entry_in u p) same f.word in
     record {
-      flushed = subst (λ (p : ℕ). lines_of v.caches p ≡ 0) same f.none;
+      flushed = subst (λ (p : ℕ). page_line_count v.caches p ≡ 0) same f.none;
       valid = ap (λ (e : ℕ). is_valid e) word ∙ subst (λ (p : ℕ). is_valid (entry_in u p) ≡ true) page_is h.valid;
       number = ap (λ (e : ℕ). number_of e) word ∙ subst (λ (p : ℕ). number_of (entry_in u p) ≡ leaving) page_is h.number ∙ l.is;
       leaving = ap (λ (e : ℕ). is_leaving e) word ∙ subst (λ (p : ℕ). is_leaving (entry_in u p) ≡ true) same (st.framed.leaving leaving l.leaving);
@@ -365,10 +365,10 @@ still_leaving b w u v leaving s l f =
 pub not_freed : (b : ℕ) (w u v : View) (leaving : ℕ) → IsServable w → least_free w.frames ≡ None → HasLeaving b w u leaving → u.faults ≡ w.faults → FailsToFinish b leaving u v → FailsToFree b w v
 not_freed b w u v leaving s full l faults f = record {
   full = full;
-  runs = subst (λ (p : ℕ). Runs b ((leaving_course b w).acts ++ Flushes p ∷ []) w v) (same_page b w u leaving l) (runs_then b (leaving_course b w).acts (flush_acts u.frames leaving) w u v l.runs f.runs);
+  runs = subst (λ (p : ℕ). Runs b ((leaving_service b w).acts ++ Flushes p ∷ []) w v) (same_page b w u leaving l) (runs_then b (leaving_service b w).acts (flush_acts u.frames leaving) w u v l.runs f.runs);
   frames = f.frames ∙ l.frames;
   room = subst (λ (o : Option ℕ). w.room ≤ v.room + free_room w o) (sym full)
-      (sum (clock_room w w.frames.leaving) (lines_of w.caches (page_in w.frames (victim_of w))) (lines_of u.caches (page_in u.frames leaving)) w.room u.room v.room l.room f.room (fewer_lines b w u leaving s l));
+      (sum (clock_room w w.frames.leaving) (page_line_count w.caches (page_of_frame w.frames (outgoing_frame w))) (page_line_count u.caches (page_of_frame u.frames leaving)) w.room u.room v.room l.room f.room (fewer_lines b w u leaving s l));
   still = still_leaving b w u v leaving s l f;
   rose = subst (λ (n : ℕ). n < v.faults) faults f.rose;
 }
@@ -379,33 +379,33 @@ not_freed b w u v leaving s full l faults f = record {
 -- the page of a frame goes out once its lines are flushed: it is written where it was dirty before
 pub counts_finish : (w u v : View) (b frame page slot : ℕ) → IsOfLeaving w frame page slot → FlushesPage b page w u → SameSwap w u → CountsOut page u v → CountsFinish frame w v
 counts_finish w u v b frame page slot l f same c =
-    counts_after w u v false (is_dirty (entry_in u page)) (is_dirty (entry_in w (page_in w.frames frame))) same
+    counts_after w u v false (is_dirty (entry_in u page)) (is_dirty (entry_in w (page_of_frame w.frames frame))) same
     (ap (λ (e : ℕ). is_dirty e) (same_entries w u b page page f ∙ ap (entry_in w) (sym (ap page_held l.held)))) c
 
 -- and after the clock, which leaves each dirty bit as it is, the page that was to go out from the start
 pub counts_freeing : (b : ℕ) (w u v : View) (leaving : ℕ) → IsServable w → least_free w.frames ≡ None → HasLeaving b w u leaving → SameSwap w u → CountsFinish leaving u v → CountsFreeing w v
 counts_freeing b w u v leaving s full l same c =
-    let page : ℕ = page_in u.frames leaving in
+    let page : ℕ = page_of_frame u.frames leaving in
     counts_after w u v false (is_dirty (entry_in u page)) (writes_to_free w) same
     (l.dirty page (leaving_small b w u leaving s l) ∙ ap (λ (p : ℕ). is_dirty (entry_in w p)) (same_page b w u leaving l)
-    ∙ sym (ap (λ (o : Option ℕ). is_none o && is_dirty (entry_in w (page_in w.frames (victim_of w)))) full)) c
+    ∙ sym (ap (λ (o : Option ℕ). is_none o && is_dirty (entry_in w (page_of_frame w.frames (outgoing_frame w)))) full)) c
 
 -- the page of the leaving frame is the one that goes out
 pub counts_leaving : (w v : View) (frame : ℕ) → w.frames.leaving ≡ Some frame → CountsFinish frame w v → Counts false (has_written w fault.Leaving) w v
 counts_leaving w v frame is c =
-    subst (λ (n : ℕ). Counts false (is_dirty (entry_in w (page_in w.frames n))) w v) (sym (ap (λ (o : Option ℕ). victim_by o (turn_of w).leaves) is)) c
+    subst (λ (n : ℕ). Counts false (is_dirty (entry_in w (page_of_frame w.frames n))) w v) (sym (ap (λ (o : Option ℕ). outgoing_by o (turn_of w).leaves) is)) c
 
 -- where a frame was free, the swap is not called
 pub counts_none : (w v : View) (frame : ℕ) → least_free w.frames ≡ Some frame → SameSwap w v → CountsFreeing w v
 counts_none w v frame is same = record {
   reads = same.reads;
-  writes = same.writes ∙ sym (ap (λ (o : Option ℕ). count_if (is_none o && is_dirty (entry_in w (page_in w.frames (victim_of w)))) w.writes) is);
+  writes = same.writes ∙ sym (ap (λ (o : Option ℕ). count_if (is_none o && is_dirty (entry_in w (page_of_frame w.frames (outgoing_frame w)))) w.writes) is);
   later = subst (λ (n : ℕ). w.faults ≤ n) (sym same.faults) (omega arith);
 }
 
 -- a page that was not written to goes out without the swap
 pub clean_still : {B : Type 0} (w u : View) (b frame page slot : ℕ) (old mid new : B) → IsOfLeaving w frame page slot → FlushesPage b page w u → mid ≡ old → (is_dirty (entry_in u page) ≡ false → new ≡ mid)
-    → is_dirty (entry_in w (page_in w.frames frame)) ≡ false → new ≡ old
+    → is_dirty (entry_in w (page_of_frame w.frames frame)) ≡ false → new ≡ old
 clean_still w u b frame page slot old mid new l f same unwritten clean =
     unwritten (ap (λ (e : ℕ). is_dirty e) (same_entries w u b page page f ∙ ap (entry_in w) (sym (ap page_held l.held))) ∙ clean) ∙ same
 

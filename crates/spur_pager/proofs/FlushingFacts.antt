@@ -4,10 +4,10 @@ use Rattle.std.proofs.Math.Seq.{map-set_same}
 use Rattle.std.proofs.lemmas.Bool.{cases_eq, eq-eqb, eqb-true, ne_eqb}
 use Rattle.std.proofs.lemmas.List.{append-nil, append_assoc, get_or-set_other, get_or-set_same, length-append}
 use Rattle.std.proofs.lemmas.Option.{slice_get-get_or}
-use Rattle.spur_addr.specs.Address.{block_of, block_start_of, page_of, table_start}
+use Rattle.spur_addr.specs.Address.{block_of, block_start_of, page_of, table_start, page_address}
 use Rattle.spur_addr.specs.PageEntry.{is_leaving, is_valid}
 use Rattle.spur_cache.specs.declared.line.Line.{Line}
-use Rattle.spur_cache.specs.Lines.{IsCache, line_at, page_lines_from, set_found, slot_of, tagged, with_state}
+use Rattle.spur_cache.specs.Lines.{IsCache, line_at, page_lines_from, set_found, index_of, tagged, with_state}
 use Rattle.spur_snoop.specs.declared.BlockState.TheVariants.{Invalid}
 use Rattle.spur_flat.specs.declared.flat.Flat.{Flat}
 use Rattle.spur_flat.specs.declared.entry.Entry.{Entry}
@@ -23,10 +23,10 @@ use Rattle.spur_walk.proofs.FillFacts.{alive}
 use Rattle.spur_walk.proofs.PlanFacts.{block_again}
 use Rattle.spur_walk.proofs.StepFacts.{same_flat}
 use Rattle.spur_pager.specs.View.{View}
-use Rattle.spur_pager.specs.Stand.{CarriesOn, IsServable, Stands, entry_in, flat_in, page_address}
+use Rattle.spur_pager.specs.Stand.{CarriesOn, IsServable, Stands, entry_in, flat_in}
 use Rattle.spur_pager.specs.Acts.{Flushed, Flushes, Hold, IsDone, NoAct, flushed_all, flushed_hold, flushes_from, without_page}
-use Rattle.spur_pager.specs.Room.{lines_of}
-use Rattle.spur_pager.specs.Made.{IsMade}
+use Rattle.spur_pager.specs.Room.{page_line_count}
+use Rattle.spur_flat.specs.Formed.{IsMade}
 use Rattle.spur_pager.specs.Served.{hold_of}
 use Rattle.spur_pager.specs.Drops.{DropsBlock, FlushesPage, IsLeavingBlock, IsLeavingPage}
 use Rattle.spur_pager.specs.Flushes.{AreFlushed, IsFlushing, places_in}
@@ -41,16 +41,16 @@ use Rattle.spur_pager.proofs.PlaceFacts.{word_page}
 pub record MayFlush (page : ℕ) (w : View) : Type 0 where
   pub stands : IsServable w
   pub leaving : IsLeavingPage w page
-  pub room : lines_of w.caches page ≤ w.room
+  pub room : page_line_count w.caches page ≤ w.room
 
 -- and still so after some lines of it were flushed
 pub may_still : (b page : ℕ) (w u : View) → MayFlush page w → IsFlushing b page w u → MayFlush page u
 may_still b page w u m f =
     let same : entry_in u page ≡ entry_in w page = ap (λ (F : Flat). word_of F (page_address page)) (same_flat w.caches u.caches w.memory u.memory f.logical) in
-    let spare : lines_of w.caches page ≤ w.room = m.room in
+    let spare : page_line_count w.caches page ≤ w.room = m.room in
     let used : u.room + length f.piece ≡ w.room = f.room in
-    let all : length (flushes_from b 0 page w.caches) ≡ lines_of w.caches page = count_from b 0 0 0 page w.caches in
-    let left : length (flushes_from b 0 page u.caches) ≡ lines_of u.caches page = count_from b 0 0 0 page u.caches in
+    let all : length (flushes_from b 0 page w.caches) ≡ page_line_count w.caches page = count_from b 0 0 0 page w.caches in
+    let left : length (flushes_from b 0 page u.caches) ≡ page_line_count u.caches page = count_from b 0 0 0 page u.caches in
     let split : length (flushes_from b 0 page w.caches) ≡ length f.piece + length (flushes_from b 0 page u.caches) =
     ap (λ (es : List Entry). length es) f.entries ∙ length-append f.piece (flushes_from b 0 page u.caches) in
     record {
@@ -105,7 +105,7 @@ start_same tag = let r : tag * 2 ^ 5 / 2 ^ 5 * 2 ^ 5 ≡ tag * 2 ^ 5 = omega ari
 pub record IsNext (page holder : ℕ) (u : View) (number : ℕ) (rest : List ℕ) : Type 0 where
   pub first : IsFirst page 0 (get_or u.caches holder []) number rest
   pub there : line_at (get_or u.caches holder []) number ≡ Some first.line
-  pub place : slot_of (get_or u.caches holder []) (block_of (block_address first.line.tag)) ≡ first.slot
+  pub place : index_of (get_or u.caches holder []) (block_of (block_address first.line.tag)) ≡ first.slot
   pub found_is : line_of_block u.caches holder (block_address first.line.tag) ≡ Some first.line
   pub has : HasLine u.caches holder (block_address first.line.tag) is_alive
   pub leaving : IsLeavingBlock u (block_address first.line.tag)
@@ -120,14 +120,14 @@ next_line page holder u number rest m within before places =
     let g : ℕ = block_address line.tag in
     let slot_is : first.slot ≡ number = sym (zero-add first.slot) ∙ first.place in
     let cache : IsCache lines = m.stands.stands.walk.agree.each holder lines (slice_get-get_or u.caches holder [] within) in
-    let place : slot_of lines (block_of g) ≡ first.slot = ap (slot_of lines) (block_again line.tag) ∙ cache.placed first.slot line first.there in
+    let place : index_of lines (block_of g) ≡ first.slot = ap (index_of lines) (block_again line.tag) ∙ cache.placed first.slot line first.there in
     let found_is : line_of_block u.caches holder g ≡ Some line =
     ap (λ (n : ℕ). tagged (block_of g) (line_at lines n)) place ∙ ap (tagged (block_of g)) first.there ∙ tagged_there (block_of g) line (sym (block_again line.tag)) in
     let of_page : line.tag / 128 ≡ page = eqb-true (line.tag / 128) page first.of_page in
     let entry : word_of (flat_in u) (block_start_of g) ≡ entry_in u page = word_page (flat_in u) (block_start_of g) (page_address page) (page_same line.tag page of_page) in
     let all : flushes_from 0 0 page u.caches ≡ BlockFlush 0 (0 + holder) g ∷ flushes_from 0 0 page (slice_set u.caches holder (slice_set lines first.slot None)) =
     all_entries 0 0 page g u.caches holder (slice_set lines first.slot None) within before (first.entries 0) in
-    let spare : lines_of u.caches page ≤ u.room = m.room in
+    let spare : page_line_count u.caches page ≤ u.room = m.room in
     record {
       first = first;
       there = ap (line_at lines) (sym slot_is) ∙ first.there;
@@ -138,7 +138,7 @@ next_line page holder u number rest m within before places =
         user = user_block line.tag page m.leaving.small of_page;
         leaving = ap (λ (e : ℕ). is_valid e && is_leaving e) entry ∙ ap (λ (t : Bool). t && is_leaving (entry_in u page)) m.leaving.valid ∙ m.leaving.leaving;
       };
-      room = some_room (lines_of u.caches page) (length (flushes_from 0 0 page (slice_set u.caches holder (slice_set lines first.slot None)))) u.room (ap (λ (es : List Entry). length es) all) spare;
+      room = some_room (page_line_count u.caches page) (length (flushes_from 0 0 page (slice_set u.caches holder (slice_set lines first.slot None)))) u.room (ap (λ (es : List Entry). length es) all) spare;
     }
   where
     page_same : (tag page : ℕ) → tag / 128 ≡ page → page_of (block_start_of (block_address tag)) ≡ page_of (page_address page)
@@ -155,7 +155,7 @@ dropped_is page holder u number rest within n =
     let g : ℕ = block_address n.first.line.tag in
     let news : List (Option Line) = slice_set lines n.first.slot None in
     let without : with_state lines g Invalid ≡ news =
-    ap (λ (o : Option Line). set_found lines (slot_of lines (block_of g)) Invalid o) n.found_is ∙ ap (λ (s : ℕ). slice_set lines s None) n.place in
+    ap (λ (o : Option Line). set_found lines (index_of lines (block_of g)) Invalid o) n.found_is ∙ ap (λ (s : ℕ). slice_set lines s None) n.place in
     let mine : news ≡ dropped_lines holder g (0 + holder) lines =
     sym (ap (λ (t : Bool). if t then with_state lines g Invalid else lines) (eq-eqb (0 + holder) holder (zero-add holder)) ∙ without) in
     sym (set_each (dropped_lines holder g) 0 u.caches holder [] news within mine
@@ -223,7 +223,7 @@ page_flushed b page w v f none =
     hold_same (flushed_hold page (hold_of w)) (hold_of v)
     (sym f.caches ∙ no_without page v.caches none) (sym f.memory ∙ no_memory page v.memory v.caches none) in
     let used : v.room + length f.piece ≡ w.room = f.room in
-    let count : length (flushes_from b 0 page w.caches) ≡ lines_of w.caches page = count_from b 0 0 0 page w.caches in
+    let count : length (flushes_from b 0 page w.caches) ≡ page_line_count w.caches page = count_from b 0 0 0 page w.caches in
     let same : length (flushes_from b 0 page w.caches) ≡ length f.piece = ap (λ (es : List Entry). length es) piece_is in
     record {
       runs = record {

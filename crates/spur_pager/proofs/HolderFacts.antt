@@ -11,8 +11,8 @@ use Rattle.spur_flat.specs.declared.flat.Flat.{Flat}
 use Rattle.spur_flat.specs.declared.tag.Tag.{Tag}
 use Rattle.spur_flat.specs.declared.entry.Entry.TheVariants.{PageOut}
 use Rattle.spur_flat.specs.Blocks.{entry_block}
-use Rattle.spur_flat.specs.TagLines.{state_of, tag_at}
-use Rattle.spur_flat.specs.TagRules.{entry_state, holder_from, holds_page, is_of_page, pager_refusal, unheld}
+use Rattle.spur_flat.specs.TagLines.{block_state, tag_at}
+use Rattle.spur_flat.specs.TagRules.{entry_state, holder_from, holds_page, is_tag_of_page, pager_refusal, unheld}
 use Rattle.spur_bus.specs.Boards.{line_in}
 use Rattle.spur_bus.specs.Calls.{cache_tags, tag_of, tags_of}
 use Rattle.spur_bus.proofs.CallFacts.{tags_in}
@@ -26,13 +26,13 @@ use Rattle.spur_pager.proofs.WriteFacts.{HasEntry}
 pub own_state : (caches : List (List (Option Line))) (b g : ℕ) → b < length caches → HasEntry caches b g → pager_refusal (entry_state (tags_of caches) b g) None ≡ None
 own_state caches b g within has =
     let tag : tag_at (tags_of caches) b (entry_block g) ≡ Some (tag_of has.line) = tags_in caches b (entry_address_of g) has.line within has.there in
-    ap (λ (t : Option Tag). pager_refusal (state_of t) None) tag ∙ ap (λ (s : BlockState). pager_refusal s None) has.exclusive
+    ap (λ (t : Option Tag). pager_refusal (block_state t) None) tag ∙ ap (λ (s : BlockState). pager_refusal s None) has.exclusive
 
 lines_none : (page : ℕ) (lines : List (Option Line)) → ((s : ℕ) (line : Line) → line_at lines s ≡ Some line → line.tag / 2 ^ 7 ≢ page) → holds_page page (cache_tags lines) ≡ false
 lines_none page [] none = refl
 lines_none page (None ∷ rest) none = lines_none page rest (λ (s : ℕ) (line : Line) (there : line_at rest s ≡ Some line). none (suc s) line there)
 lines_none page (Some x ∷ rest) none =
-    ap (λ (b : Bool). b || list_any (is_of_page page) (cache_tags rest)) (ne_eqb (x.tag / 2 ^ 7) page (none 0 x refl))
+    ap (λ (b : Bool). b || list_any (is_tag_of_page page) (cache_tags rest)) (ne_eqb (x.tag / 2 ^ 7) page (none 0 x refl))
     ∙ lines_none page rest (λ (s : ℕ) (line : Line) (there : line_at rest s ≡ Some line). none (suc s) line there)
 
 holder_none : (page k : ℕ) (caches : List (List (Option Line))) → ((i s : ℕ) (line : Line) → line_in caches i s ≡ Some line → line.tag / 2 ^ 7 ≢ page) → holder_from page k (tags_of caches) ≡ None

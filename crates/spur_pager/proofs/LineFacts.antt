@@ -4,7 +4,7 @@ use Rattle.std.specs.Option.{option_map}
 use Rattle.std.proofs.lemmas.Bool.{eqb-true}
 use Rattle.std.proofs.lemmas.List.{length-append}
 use Rattle.std.proofs.lemmas.Option.{slice_get-get_or, slice_get-map}
-use Rattle.spur_addr.specs.Address.{table_start}
+use Rattle.spur_addr.specs.Address.{table_start, user_pages}
 use Rattle.spur_cache.specs.declared.line.Line.{Line}
 use Rattle.spur_cache.specs.Lines.{is_of_page, joined, line_at}
 use Rattle.spur_flat.specs.declared.tag.Tag.{Tag}
@@ -21,9 +21,8 @@ use Rattle.spur_pager.specs.Acts.{Hold, flushes_from, flushes_in}
 use Rattle.spur_pager.specs.Changes.{Changes}
 use Rattle.spur_pager.specs.Fetch.{Leads, WasThere}
 use Rattle.spur_pager.specs.Looks.{HasNoMoreLines}
-use Rattle.spur_pager.specs.Past.{Past}
+use Rattle.spur_flat.specs.Past.{Past}
 use Rattle.spur_pager.specs.Served.{hold_of}
-use Rattle.spur_pager.specs.Stand.{user_pages}
 use Rattle.spur_pager.specs.View.{View}
 
 -- what stands at a place counts for a page: 1 where it is a line of the page

@@ -2,7 +2,7 @@
 use Rattle.std.proofs.Common.{◌≡◌, ◌≢◌, ◌∙◌, ℕ, ◌+◌, ◌*◌, ◌/◌, ◌%◌, ◌^◌, ◌<◌, ◌==◌, ◌&&◌, nat_lt, ⊎_elim, Bool, true, false, not, if◌then◌else◌, ap, sym, refl, subst, [], ◌∷◌, ◌++◌, ◌≤◌, get_or, length, Option, Some, None, arith}
 use Rattle.std.specs.Int.{bit_at}
 use Rattle.std.proofs.lemmas.Bool.{and_from, cases_eq, eq-eqb, lt-ltb, ltb-true, not_from_false}
-use Rattle.spur_addr.specs.Address.{page_of}
+use Rattle.spur_addr.specs.Address.{page_of, page_address, user_pages}
 use Rattle.spur_addr.specs.PageEntry.{is_leaving, is_referenced, is_valid, number_of, with_bit}
 use Rattle.spur_flat.specs.declared.flat.Flat.{Flat}
 use Rattle.spur_flat.specs.Pager.{word_of}
@@ -13,13 +13,13 @@ use Rattle.spur_walk.specs.Tables.{logical_flat, root_at}
 use Rattle.spur_pager.specs.declared.change.Change.{Change}
 use Rattle.spur_pager.specs.declared.change.Change.TheVariants.{Unreferenced, Leaving}
 use Rattle.spur_pager.specs.View.{View}
-use Rattle.spur_pager.specs.Stand.{AreFramed, HoldsPage, Stands, entry_in, page_address, standing_flat, user_pages}
-use Rattle.spur_pager.specs.Changes.{Changes, MayChange, changed, clock_change, entry_for, word_in}
+use Rattle.spur_pager.specs.Stand.{AreFramed, FrameHolds, Stands, entry_in, standing_flat}
+use Rattle.spur_pager.specs.Changes.{Changes, MayChange, changed_word, clock_change, entry_for, entry_word}
 use Rattle.spur_pager.specs.Course.{bits_in}
 use Rattle.spur_pager.specs.Served.{hold_of}
 use Rattle.spur_walk.specs.Bounds.{page_steps_left}
 use Rattle.spur_walk.proofs.BoundFacts.{page-few}
-use Rattle.spur_pager.specs.Past.{Past}
+use Rattle.spur_flat.specs.Past.{Past}
 use Rattle.spur_pager.specs.Acts.{Hold, clear_referenced, leave}
 use Rattle.spur_pager.proofs.OpenFacts.{small_length}
 use Rattle.spur_pager.specs.Marks.{IsMark}
@@ -54,7 +54,7 @@ referenced_clear e =
     ap (λ (n : ℕ). n == 1) r
 
 -- the page of a frame leaves
-pub framed_leave : (F : Flat) (frames : Frames) (h frame page slot : ℕ) → IsAbove F (page_address page) → HoldsPage F frame page slot → holder_of frames frame ≡ Some (page, slot) → frames.leaving ≡ None → AreFramed F frames
+pub framed_leave : (F : Flat) (frames : Frames) (h frame page slot : ℕ) → IsAbove F (page_address page) → FrameHolds F frame page slot → holder_of frames frame ≡ Some (page, slot) → frames.leaving ≡ None → AreFramed F frames
     → AreFramed (placed F (page_address page) (with_bit (word_of F (page_address page)) 6 true)) (record frames { hand = h; leaving = Some frame })
 framed_leave F frames h frame page slot a holds held none ok =
     let g : ℕ = page_address page in
@@ -70,7 +70,7 @@ framed_leave F frames h frame page slot a holds held none ok =
       holds = λ (p : ℕ) (small : p < user_pages) (valid : is_valid (word_of (placed F g new) (page_address p)) ≡ true). held_still F frames g new p e marked ok small valid;
       leaving = λ (f : ℕ) (is : Some frame ≡ Some f).
           let same : frame ≡ f = cc in
-          let page_is : clock.page_in frames f ≡ page = ap (λ (n : ℕ). clock.page_in frames n) (sym same) ∙ ap page_held held in
+          let page_is : clock.page_of_frame frames f ≡ page = ap (λ (n : ℕ). clock.page_of_frame frames n) (sym same) ∙ ap page_held held in
           ap (λ (p : ℕ). is_leaving (word_of (placed F g new) (page_address p))) page_is ∙ ap (λ (n : ℕ). is_leaving n) (e.here page holds.small here) ∙ leaving_set (word_of F g);
       leaves = λ (p : ℕ) (small : p < user_pages) (valid : is_valid (word_of (placed F g new) (page_address p)) ≡ true) (is : is_leaving (word_of (placed F g new) (page_address p)) ≡ true).
           ⊎_elim
@@ -107,7 +107,7 @@ module _ (w : View) (b frame page slot : ℕ) (within : b < length w.caches) (f 
   abbrev pub g : ℕ
   g = page_address page
 
-  pub holds : (rest : Flat) → Stands rest w → HoldsPage (standing_flat rest w) frame page slot
+  pub holds : (rest : Flat) → Stands rest w → FrameHolds (standing_flat rest w) frame page slot
   holds rest st = st.framed.taken frame page slot (record { low = f.taken.low; high = f.taken.high }) f.held
 
   stays : (rest : Flat) → Stands rest w → is_leaving (word_of (standing_flat rest w) g) ≡ false
@@ -118,7 +118,7 @@ module _ (w : View) (b frame page slot : ℕ) (within : b < length w.caches) (f 
   here_above : (rest : Flat) → Stands rest w → IsAbove (standing_flat rest w) g
   here_above rest st = let h = holds rest st in above (standing_flat rest w) g st.valid (page_user page h.small) (valid_declared (standing_flat rest w) g st.valid (page_user page h.small) h.valid)
 
-  pub clear_may : (rest : Flat) → Stands rest w → is_referenced (word_in (hold_of w) g) ≡ true → MayWritten w b g Unreferenced
+  pub clear_may : (rest : Flat) → Stands rest w → is_referenced (entry_word (hold_of w) g) ≡ true → MayWritten w b g Unreferenced
   clear_may some st referenced = let h = holds some st in record {
     is = tt;
     user = page_user page h.small;
@@ -157,10 +157,10 @@ module _ (w : View) (b frame page slot : ℕ) (within : b < length w.caches) (f 
       let F : Flat = standing_flat rest w in
       framed_leave F w.frames (hand_past w.frames (looked_at w.frames)) frame page slot (here_above rest st) (holds rest st) f.held f.staying st.framed
 
-  page_is : clock.page_in w.frames frame ≡ page
+  page_is : clock.page_of_frame w.frames frame ≡ page
   page_is = ap page_held f.held
 
-  bit_is : page < user_pages → bits_in w (clock.page_in w.frames frame) ≡ is_referenced (word_in (hold_of w) g)
+  bit_is : page < user_pages → bits_in w (clock.page_of_frame w.frames frame) ≡ is_referenced (entry_word (hold_of w) g)
   bit_is small = ap (bits_in w) page_is ∙ ap (λ (x : Bool). x && is_referenced (entry_in w page)) (lt-ltb page user_pages small)
 
   bits_same : (v : View) (other : ℕ) (x : Bool) → nat_lt other user_pages ≡ x → (other < user_pages → entry_in v other ≡ entry_in w other) → bits_in v other ≡ bits_in w other
@@ -189,23 +189,23 @@ module _ (w : View) (b frame page slot : ℕ) (within : b < length w.caches) (f 
         | inr apart ↦ ap (λ (n : ℕ). is_dirty n) (e.others other small apart)
       ]
 
-  pub look_clears : (v : View) (rest : Flat) → Stands rest w → IsOfStore w v → is_referenced (word_in (hold_of w) g) ≡ true → v.frames ≡ passed w.frames
-      → Changes b g (clock_change (word_in (hold_of w) g)) (hold_of w) (past_of w) (hold_of v) (past_of v) → Looks b w v false
+  pub look_clears : (v : View) (rest : Flat) → Stands rest w → IsOfStore w v → is_referenced (entry_word (hold_of w) g) ≡ true → v.frames ≡ passed w.frames
+      → Changes b g (clock_change (entry_word (hold_of w) g)) (hold_of w) (past_of w) (hold_of v) (past_of v) → Looks b w v false
   look_clears v some st store referenced frames c =
       let F : Flat = standing_flat some w in
       let h = holds some st in
-      let is : clock_change (word_in (hold_of w) g) ≡ Unreferenced = ap (λ (x : Bool). if x then Unreferenced else Leaving) referenced in
+      let is : clock_change (entry_word (hold_of w) g) ≡ Unreferenced = ap (λ (x : Bool). if x then Unreferenced else Leaving) referenced in
       let change : Changes b g Unreferenced (hold_of w) (past_of w) (hold_of v) (past_of v) = subst (λ (k : Change). Changes b g k (hold_of w) (past_of w) (hold_of v) (past_of v)) is c in
-      let framed : (rest : Flat) → Stands rest w → AreFramed (placed (standing_flat rest w) g (changed Unreferenced (word_of (standing_flat rest w) g))) v.frames =
-      λ (rest : Flat) (s : Stands rest w). subst (λ (fs : Frames). AreFramed (placed (standing_flat rest w) g (changed Unreferenced (word_of (standing_flat rest w) g))) fs) (sym frames) (clear_framed rest s) in
+      let framed : (rest : Flat) → Stands rest w → AreFramed (placed (standing_flat rest w) g (changed_word Unreferenced (word_of (standing_flat rest w) g))) v.frames =
+      λ (rest : Flat) (s : Stands rest w). subst (λ (fs : Frames). AreFramed (placed (standing_flat rest w) g (changed_word Unreferenced (word_of (standing_flat rest w) g))) fs) (sym frames) (clear_framed rest s) in
       let run = runs w v b g Unreferenced (clear_may some st referenced) store framed change in
-      let flat : standing_flat some v ≡ placed F g (changed Unreferenced (word_of F g)) = flat_is w v b g Unreferenced (clear_may some st referenced) store framed change some in
-      let e = entries F g (changed Unreferenced (word_of F g)) (here_above some st) in
+      let flat : standing_flat some v ≡ placed F g (changed_word Unreferenced (word_of F g)) = flat_is w v b g Unreferenced (clear_may some st referenced) store framed change some in
+      let e = entries F g (changed_word Unreferenced (word_of F g)) (here_above some st) in
       record {
         frame = frame;
         found = f.looked;
         taken = f.taken;
-        room = room_used b g (hold_of w) (hold_of v) (past_of w) (past_of v) (clock_change (word_in (hold_of w) g)) c;
+        room = room_used b g (hold_of w) (hold_of v) (past_of w) (past_of v) (clock_change (entry_word (hold_of w) g)) c;
         looked = Clears (bit_is h.small ∙ referenced)
             (subst (λ (p : ℕ). Runs b (clear_referenced b p ∷ []) w v) (sym page_is) run) frames
             (subst (λ (p : ℕ). IsCleared (bits_in w) p (bits_in v)) (sym page_is) (record {
@@ -214,29 +214,29 @@ module _ (w : View) (b frame page slot : ℕ) (within : b < length w.caches) (f 
               others = λ (other : ℕ) (apart : other ≢ page). bits_same v other (nat_lt other user_pages) refl
                   (λ (small : other < user_pages). ap (λ (G : Flat). word_of G (page_address other)) flat ∙ e.others other small (λ (same : other ≡ page_of g). apart (same ∙ page_again page)));
             }));
-        absent = absent_stays v some (changed Unreferenced (word_of F g)) st flat;
-        dirty = dirty_stays v some (changed Unreferenced (word_of F g)) st flat (same_bit (word_of F g) 1 2 false (λ h. cc));
+        absent = absent_stays v some (changed_word Unreferenced (word_of F g)) st flat;
+        dirty = dirty_stays v some (changed_word Unreferenced (word_of F g)) st flat (same_bit (word_of F g) 1 2 false (λ h. cc));
         lines = changes_lines b g Unreferenced w v (past_of w) (past_of v) change st.walk;
       }
 
-  pub look_leaves : (v : View) (rest : Flat) → Stands rest w → IsOfStore w v → is_referenced (word_in (hold_of w) g) ≡ false → v.frames ≡ record (passed w.frames) { leaving = Some frame }
-      → Changes b g (clock_change (word_in (hold_of w) g)) (hold_of w) (past_of w) (hold_of v) (past_of v) → Looks b w v true
+  pub look_leaves : (v : View) (rest : Flat) → Stands rest w → IsOfStore w v → is_referenced (entry_word (hold_of w) g) ≡ false → v.frames ≡ record (passed w.frames) { leaving = Some frame }
+      → Changes b g (clock_change (entry_word (hold_of w) g)) (hold_of w) (past_of w) (hold_of v) (past_of v) → Looks b w v true
   look_leaves v some st store unreferenced frames c =
       let F : Flat = standing_flat some w in
       let h = holds some st in
-      let is : clock_change (word_in (hold_of w) g) ≡ Leaving = ap (λ (x : Bool). if x then Unreferenced else Leaving) unreferenced in
+      let is : clock_change (entry_word (hold_of w) g) ≡ Leaving = ap (λ (x : Bool). if x then Unreferenced else Leaving) unreferenced in
       let change : Changes b g Leaving (hold_of w) (past_of w) (hold_of v) (past_of v) = subst (λ (k : Change). Changes b g k (hold_of w) (past_of w) (hold_of v) (past_of v)) is c in
-      let framed : (rest : Flat) → Stands rest w → AreFramed (placed (standing_flat rest w) g (changed Leaving (word_of (standing_flat rest w) g))) v.frames =
-      λ (rest : Flat) (s : Stands rest w). subst (λ (fs : Frames). AreFramed (placed (standing_flat rest w) g (changed Leaving (word_of (standing_flat rest w) g))) fs) (sym frames) (leave_framed rest s) in
+      let framed : (rest : Flat) → Stands rest w → AreFramed (placed (standing_flat rest w) g (changed_word Leaving (word_of (standing_flat rest w) g))) v.frames =
+      λ (rest : Flat) (s : Stands rest w). subst (λ (fs : Frames). AreFramed (placed (standing_flat rest w) g (changed_word Leaving (word_of (standing_flat rest w) g))) fs) (sym frames) (leave_framed rest s) in
       let run = runs w v b g Leaving (leave_may some st) store framed change in
       record {
         frame = frame;
         found = f.looked;
         taken = f.taken;
-        room = room_used b g (hold_of w) (hold_of v) (past_of w) (past_of v) (clock_change (word_in (hold_of w) g)) c;
+        room = room_used b g (hold_of w) (hold_of v) (past_of w) (past_of v) (clock_change (entry_word (hold_of w) g)) c;
         looked = Leaves (bit_is h.small ∙ unreferenced) (subst (λ (p : ℕ). Runs b (leave b p ∷ []) w v) (sym page_is) run) frames;
-        absent = absent_stays v some (changed Leaving (word_of F g)) st (flat_is w v b g Leaving (leave_may some st) store framed change some);
-        dirty = dirty_stays v some (changed Leaving (word_of F g)) st (flat_is w v b g Leaving (leave_may some st) store framed change some) (same_bit (word_of F g) 6 2 true (λ h. cc));
+        absent = absent_stays v some (changed_word Leaving (word_of F g)) st (flat_is w v b g Leaving (leave_may some st) store framed change some);
+        dirty = dirty_stays v some (changed_word Leaving (word_of F g)) st (flat_is w v b g Leaving (leave_may some st) store framed change some) (same_bit (word_of F g) 6 2 true (λ h. cc));
         lines = changes_lines b g Leaving w v (past_of w) (past_of v) change st.walk;
       }
 
@@ -247,8 +247,8 @@ module _ (w : View) (b frame page slot : ℕ) (within : b < length w.caches) (f 
   clock_mark true = tt
   clock_mark false = tt
 
-  pub look_may : (rest : Flat) → Stands rest w → MayChange b g (clock_change (word_in (hold_of w) g)) (hold_of w)
-  look_may rest st = let h = holds rest st in mark_may w b g (clock_change (word_in (hold_of w) g)) (clock_mark (is_referenced (word_in (hold_of w) g))) st.present (page_user page h.small) h.valid
+  pub look_may : (rest : Flat) → Stands rest w → MayChange b g (clock_change (entry_word (hold_of w) g)) (hold_of w)
+  look_may rest st = let h = holds rest st in mark_may w b g (clock_change (entry_word (hold_of w) g)) (clock_mark (is_referenced (entry_word (hold_of w) g))) st.present (page_user page h.small) h.valid
 
 -- what was chosen tells of the bit
 pub chose_clear : (x : Bool) → (if x then Unreferenced else Leaving) ≡ Unreferenced → x ≡ true

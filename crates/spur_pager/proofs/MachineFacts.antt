@@ -4,7 +4,7 @@ use Rattle.std.specs.Prelude.{IsTrue, IfSome, IsSome}
 use Rattle.std.proofs.lemmas.Bool.{cases_eq, cases_lt}
 use Rattle.std.proofs.lemmas.List.{length-replicate}
 use Rattle.std.proofs.lemmas.Nat.{shr-shr}
-use Rattle.spur_addr.specs.Address.{page_of, table_start}
+use Rattle.spur_addr.specs.Address.{page_of, table_start, page_address, user_pages}
 use Rattle.spur_addr.specs.PageEntry.{is_dirty, is_leaving, is_on_swap, is_readable, is_valid, number_of}
 use Rattle.spur_cache.specs.declared.line.Line.{Line}
 use Rattle.spur_snoop.specs.Size.{IsLineCount}
@@ -18,7 +18,8 @@ use Rattle.spur_swap.specs.Told.{HaveSlots}
 use Rattle.spur_frames.specs.Frames.{AreFrames, Frames, IsTaken, holder_of}
 use Rattle.spur_frames.specs.Clock.{page_held}
 use Rattle.spur_pager.specs.View.{View}
-use Rattle.spur_pager.specs.Stand.{AreClean, AreFramed, HoldsPage, page_address, user_pages}
+use Rattle.spur_pager.specs.Stand.{AreFramed, FrameHolds}
+use Rattle.spur_flat.specs.Clean.{AreClean}
 use Rattle.spur_pager.specs.Bench.{FitsEntry, FitsSlot, HasOnlyPages, IsBench, FitTogether, IsNamed, IsRight, MatchesSlot, NamesFrame, bench_pages, entry_in_slot, page_in_slot}
 use Rattle.spur_pager.proofs.EntryFacts.{page_again, page_user}
 use Rattle.spur_pager.proofs.OpeningFacts.{layout-stands}
@@ -227,7 +228,7 @@ module _ (words : List ℕ) (frames : Frames) (told : Option (List ℕ)) (m : Fi
     tables = tables_of;
   }
 
-  holds_page : (swap : List ℕ) (frame page slot : ℕ) → IsNamed words frame page slot → HoldsPage (flat words swap) frame page slot
+  holds_page : (swap : List ℕ) (frame page slot : ℕ) → IsNamed words frame page slot → FrameHolds (flat words swap) frame page slot
   holds_page swap frame page slot named =
       let small : page_in_slot slot < 9 = small_page slot named.small in
       let is : page ≡ page_in_slot slot = named.page_is in

@@ -2,7 +2,7 @@
 use Rattle.std.proofs.Common.{◌≡◌, ◌∙◌, ℕ, ◌+◌, ◌*◌, ◌/◌, ◌%◌, ◌^◌, ◌<◌, Bool, true, false, if◌then◌else◌, ap, refl, subst, List, [], ◌∷◌, ◌++◌, filter, get_or, length, Option, Some, None, arith}
 use Rattle.std.specs.Prelude.{⊤}
 use Rattle.std.specs.List.{AllByRecursion}
-use Rattle.spur_addr.specs.Address.{block_start_of, entry_address_of, table_start}
+use Rattle.spur_addr.specs.Address.{block_start_of, entry_address_of, table_start, page_address}
 use Rattle.spur_cache.specs.declared.line.Line.{Line}
 use Rattle.spur_cache.specs.Lines.{IsCache, found, victim_of}
 use Rattle.spur_snoop.specs.declared.Need.{Need}
@@ -24,12 +24,11 @@ use Rattle.spur_walk.specs.Tables.{block_address, logical_flat, root_at}
 use Rattle.spur_walk.proofs.PlanFacts.{own_cache, victim_small}
 use Rattle.spur_pager.specs.declared.change.Change.{Change}
 use Rattle.spur_pager.specs.declared.change.Change.TheVariants.{Referenced, Unreferenced, Dirty, Leaving, Out, In}
-use Rattle.spur_pager.specs.Past.{Past}
+use Rattle.spur_flat.specs.Past.{Past}
 use Rattle.spur_pager.specs.View.{View}
-use Rattle.spur_pager.specs.Stand.{page_address}
 use Rattle.spur_pager.specs.Acts.{Hold}
 use Rattle.spur_pager.specs.Changes.{Changes, entry_for}
-use Rattle.spur_pager.specs.Made.{IsMade}
+use Rattle.spur_flat.specs.Formed.{IsMade}
 use Rattle.spur_pager.specs.Served.{Keeps}
 use Rattle.spur_pager.proofs.OpenFacts.{all-push}
 

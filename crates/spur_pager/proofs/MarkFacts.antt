@@ -11,7 +11,7 @@ use Rattle.spur_cache.specs.declared.line.Line.{Line}
 use Rattle.spur_flat.specs.declared.flat.Flat.{Flat}
 use Rattle.spur_flat.specs.Pager.{word_of}
 use Rattle.spur_bus.specs.Boards.{line_in}
-use Rattle.spur_walk.specs.Tables.{HasTables, IsFrame, block_address, user_roots}
+use Rattle.spur_walk.specs.Tables.{HasTables, IsPageFrame, block_address, user_roots}
 use Rattle.spur_walk.specs.Present.{ArePresent}
 use Rattle.spur_pager.specs.Writes.{MayWrite}
 use Rattle.spur_pager.proofs.PlaceFacts.{word_page}
@@ -40,7 +40,7 @@ may_mark F caches g e new ok present user is valid marked =
             prot = marked.prot ∙ ap (λ (n : ℕ). protection_of n) (sym same) ∙ was.prot;
             dirty = λ (d : line.dirty ≡ true). marked.dirty (ap (λ (n : ℕ). is_dirty n) (sym same) ∙ was.dirty d);
           };
-      frame = λ (v : is_valid new ≡ true). subst (λ (n : ℕ). IsFrame F n) (sym number_g) (ok.frame g user valid_g);
+      frame = λ (v : is_valid new ≡ true). subst (λ (n : ℕ). IsPageFrame F n) (sym number_g) (ok.frame g user valid_g);
       apart = λ (v : is_valid new ≡ true) (to : ℕ) (uto : to < table_start) (page : page_of to ≢ page_of g) (vt : is_valid (word_of F to) ≡ true) (same : number_of (word_of F to) ≡ number_of new).
           page (ok.apart to g uto user vt valid_g (same ∙ number_g));
       table = λ (v : is_valid new ≡ true) (r : ℕ) (small : r < user_roots) (vr : is_valid (slice_index F.words r) ≡ true) (same : number_of new ≡ number_of (slice_index F.words r)).

@@ -16,7 +16,8 @@ use Rattle.spur_walk.specs.Present.{ArePresent, MayWalk}
 use Rattle.spur_walk.specs.Tables.{HasTablesOf, logical_flat}
 use Rattle.spur_pager.specs.declared.change.Change.{Change}
 use Rattle.spur_pager.specs.View.{View}
-use Rattle.spur_pager.specs.Stand.{AreClean, AreFramed, CarriesOn, Stands, standing_flat, standing_state, with_told}
+use Rattle.spur_pager.specs.Stand.{AreFramed, CarriesOn, Stands, standing_flat, standing_state, with_told}
+use Rattle.spur_flat.specs.Clean.{AreClean}
 use Rattle.spur_pager.specs.Acts.{Hold}
 use Rattle.spur_pager.specs.Changes.{Changes, entry_for}
 use Rattle.spur_pager.specs.Served.{Keeps, hold_of, tells}

@@ -15,7 +15,9 @@ use Rattle.spur_walk.specs.Present.{ArePresent, MayWalk}
 use Rattle.spur_walk.specs.Tables.{logical_flat}
 use Rattle.spur_walk.proofs.BeginFacts.{empty, empty-walks}
 use Rattle.spur_pager.specs.View.{View}
-use Rattle.spur_pager.specs.Stand.{AreClean, AreFramed, page_address, standing_flat, user_pages, with_told}
+use Rattle.spur_pager.specs.Stand.{AreFramed, standing_flat, with_told}
+use Rattle.spur_flat.specs.Clean.{AreClean}
+use Rattle.spur_addr.specs.Address.{page_address, user_pages}
 use Rattle.spur_pager.specs.Opening.{IsLaidOut, IsNew, LayoutStands, OpeningStands}
 
 -- empty caches

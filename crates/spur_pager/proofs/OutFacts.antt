@@ -1,13 +1,13 @@
 -- A page goes out: what stands then is what its entry of the history makes of what stood.
 use Rattle.std.proofs.Common.{◌≡◌, ◌≢◌, ◌∙◌, ℕ, ◌+◌, ◌*◌, ◌^◌, ◌<◌, ◌≤◌, Bool, true, false, if◌then◌else◌, ap, sym, refl, subst, List, [], ◌∷◌, ◌++◌, length, slice_set, Option, Some, None, arith}
 use Rattle.std.specs.Prelude.{IsSome}
-use Rattle.spur_addr.specs.Address.{page_of, table_start}
+use Rattle.spur_addr.specs.Address.{page_of, table_start, page_address, user_pages}
 use Rattle.spur_addr.specs.PageEntry.{is_dirty, is_leaving, is_valid, number_of, protection_of, swapped_of}
 use Rattle.spur_addr.proofs.EntryFacts.{is_valid-swapped}
 use Rattle.spur_flat.specs.declared.flat.Flat.{Flat}
 use Rattle.spur_flat.specs.declared.entry.Entry.TheVariants.{PageOut}
 use Rattle.spur_flat.specs.History.{on}
-use Rattle.spur_flat.specs.Pager.{entry_place, is_declared, position_in, slot_of, word_of}
+use Rattle.spur_flat.specs.Pager.{entry_place, is_declared, position_in, swap_slot_of, word_of}
 use Rattle.spur_addr.specs.Pages.{page_at, with_page}
 use Rattle.spur_flat.specs.Untold.{IsLike}
 use Rattle.spur_flat.specs.Validity.{IsDataFrame, IsValidFlat}
@@ -21,9 +21,10 @@ use Rattle.spur_walk.proofs.TableFacts.{has_own}
 use Rattle.spur_walk.proofs.ValidFacts.{like-tables}
 use Rattle.spur_pager.specs.declared.change.Change.TheVariants.{Out}
 use Rattle.spur_pager.specs.View.{View}
-use Rattle.spur_pager.specs.Stand.{AreClean, AreFramed, HoldsPage, Stands, entry_in, page_address, standing_flat, user_pages, with_told}
+use Rattle.spur_pager.specs.Stand.{AreFramed, FrameHolds, Stands, entry_in, standing_flat, with_told}
+use Rattle.spur_flat.specs.Clean.{AreClean}
 use Rattle.spur_pager.specs.Acts.{page_out}
-use Rattle.spur_pager.specs.Changes.{Changes, changed}
+use Rattle.spur_pager.specs.Changes.{Changes, changed_word}
 use Rattle.spur_pager.specs.Moves.{GoesOut, MayGoOut}
 use Rattle.spur_pager.specs.Runs.{Runs}
 use Rattle.spur_pager.specs.Served.{hold_of, tells}
@@ -86,7 +87,7 @@ module _ (w : View) (b frame page slot : ℕ) (may : MayGoOut w b frame page slo
   new = swapped_of slot (protection_of (entry_in w page))
 
   -- what is known of the page, for any declared pages for which the state stands
-  pub holds : (rest : Flat) → Stands rest w → HoldsPage (standing_flat rest w) frame page slot
+  pub holds : (rest : Flat) → Stands rest w → FrameHolds (standing_flat rest w) frame page slot
   holds rest st = st.framed.taken frame page slot may.is_frame may.held
 
   pub user : g < table_start
@@ -104,7 +105,7 @@ module _ (w : View) (b frame page slot : ℕ) (may : MayGoOut w b frame page slo
   pub taken : IsTaken w.frames frame
   taken = record { low = may.is_frame.low; high = may.is_frame.high; taken = subst (λ (o : Option (ℕ × ℕ)). IsSome o) (sym may.held) refl }
 
-  slot_is : (rest : Flat) → Stands rest w → slot ≡ slot_of (standing_flat rest w) g
+  slot_is : (rest : Flat) → Stands rest w → slot ≡ swap_slot_of (standing_flat rest w) g
   slot_is rest st = (holds rest st).slot_is ∙ ap (position_in (standing_flat rest w).pages) (sym (page_again page))
 
   same_pages : (rest : Flat) → (standing_flat rest w).pages ≡ rest.pages
@@ -159,7 +160,7 @@ module _ (w : View) (b frame page slot : ℕ) (may : MayGoOut w b frame page slo
 
     -- the swapped words that `PageOut` makes
     abbrev swap_after : Flat → List ℕ
-    swap_after F = if is_dirty (word_of F g) then with_page F.swap (slot_of F g) (page_at F.words (number_of (word_of F g))) else F.swap
+    swap_after F = if is_dirty (word_of F g) then with_page F.swap (swap_slot_of F g) (page_at F.words (number_of (word_of F g))) else F.swap
 
     swap_is : (rest : Flat) (words : List ℕ) → Stands rest w → w.pages ≡ Some words → (standing_flat rest v).swap ≡ swap_after (standing_flat rest w)
     swap_is rest words st is =
@@ -173,13 +174,13 @@ module _ (w : View) (b frame page slot : ℕ) (may : MayGoOut w b frame page slo
         ∙ swap_if d rest words slot put
         ∙ ap (λ (ws : List ℕ). if d then with_page ws slot put else ws) had
         ∙ ap (λ (n : ℕ). if d then with_page F.swap n put else F.swap) (slot_is rest st)
-        ∙ ap (λ (ps : List ℕ). if d then with_page F.swap (slot_of F g) ps else F.swap) words_is
+        ∙ ap (λ (ps : List ℕ). if d then with_page F.swap (swap_slot_of F g) ps else F.swap) words_is
 
     on_is : (rest : Flat) → Stands rest w → on (standing_flat rest w) (PageOut b g) ≡ record (placed (standing_flat rest w) g new) { swap = swap_after (standing_flat rest w) }
     on_is rest st =
         let F : Flat = standing_flat rest w in
         let e : ℕ = word_of F g in
-        ap (λ (G : Flat). placed G g (swapped_of (slot_of F g) (protection_of e))) (saved_if (is_dirty e) F (with_page F.swap (slot_of F g) (page_at F.words (number_of e))))
+        ap (λ (G : Flat). placed G g (swapped_of (swap_slot_of F g) (protection_of e))) (saved_if (is_dirty e) F (with_page F.swap (swap_slot_of F g) (page_at F.words (number_of e))))
         ∙ ap (λ (n : ℕ). record (placed F g (swapped_of n (protection_of e))) { swap = swap_after F }) (sym (slot_is rest st))
 
     told : (rest : Flat) (words : List ℕ) → Stands rest w → w.pages ≡ Some words → standing_flat rest v ≡ on (standing_flat rest w) (PageOut b g)
@@ -222,19 +223,19 @@ module _ (w : View) (b frame page slot : ℕ) (may : MayGoOut w b frame page slo
         let was : is_valid (word_of F (page_address p)) ≡ true = ap (λ (n : ℕ). is_valid n) (sym word) ∙ valid in
         let its = data_frame F p st.valid small_p was in
         let k = st.framed.taken (number_of (word_of F (page_address p))) p (position_in F.pages p) (its_frame rest st (number_of (word_of F (page_address p))) its) (st.framed.holds p small_p was) in
-        let slots : slot_of F (page_address p) ≢ slot_of F g = λ (same : slot_of F (page_address p) ≡ slot_of F g).
+        let slots : swap_slot_of F (page_address p) ≢ swap_slot_of F g = λ (same : swap_slot_of F (page_address p) ≡ swap_slot_of F g).
         positions_apart F.pages page p (holds rest st).declared k.declared (λ (h : page ≡ p). apart (sym h ∙ sym (page_again page)))
         (ap (position_in F.pages) (sym (page_again page)) ∙ sym same ∙ ap (position_in F.pages) (page_again p)) in
-        let its_slot : slot_of F (page_address p) * 1024 + 1024 ≤ length F.swap =
+        let its_slot : swap_slot_of F (page_address p) * 1024 + 1024 ≤ length F.swap =
         slot_inside F (page_address p) st.valid (small_user (page_address p) (page_user p small_p)) (valid_declared F (page_address p) st.valid (page_user p small_p) was) in
-        let put : IsPut F.swap (page_at F.words (number_of (word_of F g))) (slot_of F g) = record {
+        let put : IsPut F.swap (page_at F.words (number_of (word_of F g))) (swap_slot_of F g) = record {
           within = slot_inside F g st.valid small (declared rest st);
           long = page_long F.words (number_of (word_of F g)) (frame_inside F (number_of (word_of F g)) st.valid (data_frame F page st.valid may.leaving.small may.leaving.valid));
         } in
         ap (λ (n : ℕ). page_at (placed F g new).words (number_of n)) word
         ∙ e.data_words (number_of (word_of F (page_address p))) its.low
         ∙ clean p small_p was (ap (λ (n : ℕ). is_dirty n) (sym word) ∙ clear)
-        ∙ sym (either_other (is_dirty (word_of F g)) F.swap (page_at F.words (number_of (word_of F g))) (slot_of F g) (slot_of F (page_address p)) put its_slot slots)
+        ∙ sym (either_other (is_dirty (word_of F g)) F.swap (page_at F.words (number_of (word_of F g))) (swap_slot_of F g) (swap_slot_of F (page_address p)) put its_slot slots)
 
     clean : (rest : Flat) (words : List ℕ) → Stands rest w → v.pages ≡ Some words → AreClean (standing_flat rest v)
     clean rest words st is =
@@ -271,7 +272,7 @@ module _ (w : View) (b frame page slot : ℕ) (may : MayGoOut w b frame page slo
       piece = c.fetched ++ PageOut b g ∷ [];
       history = c.entries;
       room = c.room;
-      done = done_one b g (PageOut b g) (changed (Out slot)) (hold_of w) c.mid (hold_of v) c.fetched c.fetch c.to_is;
+      done = done_one b g (PageOut b g) (changed_word (Out slot)) (hold_of w) c.mid (hold_of v) c.fetched c.fetch c.to_is;
       made = changes_made b g (Out slot) (hold_of w) (hold_of v) (past_of w) (past_of v) may.within small (page_starts page) c;
       keeps = moved-keeps b g (Out slot) w v (hold_of w) c moved;
       carries = moved-is-carried b g (Out slot) w v (hold_of w) c moved;

@@ -1,5 +1,5 @@
 -- The history that is seen.
-use Rattle.spur_pager.specs.Past.{Past}
+use Rattle.spur_flat.specs.Past.{Past}
 use Rattle.spur_pager.specs.View.{View}
 
 -- its entries, and its spare room

@@ -11,7 +11,7 @@ use Rattle.spur_flat.specs.declared.flat.Flat.{Flat}
 use Rattle.spur_flat.specs.Blocks.{root_word_of}
 use Rattle.spur_flat.specs.Pager.{entry_place, or_zero, word_of}
 use Rattle.spur_bus.specs.Boards.{line_in}
-use Rattle.spur_walk.specs.Tables.{HasTables, IsFrame, OfPage, OfTable, OfRoot, StandsIn, block_address, root_at, user_roots}
+use Rattle.spur_walk.specs.Tables.{HasTables, IsPageFrame, OfPage, OfTable, OfRoot, StandsIn, block_address, root_at, user_roots}
 use Rattle.spur_walk.specs.Present.{AreMapped, ArePresent, IsPresent}
 use Rattle.spur_walk.proofs.FrameFacts.{root_small}
 use Rattle.spur_walk.proofs.TableFacts.{index_small}
@@ -101,7 +101,7 @@ split F g e to p user =
     (λ (apart : page_of to ≢ page_of g). Other apart (word_other F g e to p user apart))
     (cases_eq (page_of to) (page_of g))
 
-is_frame : (F : Flat) (g e n : ℕ) → IsFrame F n → IsFrame (placed F g e) n
+is_frame : (F : Flat) (g e n : ℕ) → IsPageFrame F n → IsPageFrame (placed F g e) n
 is_frame F g e n f = record { low = f.low; room = subst (λ (m : ℕ). n * 1024 + 1024 ≤ m) (sym (length-set F.words (entry_place F g) e)) f.room }
 
 readable_in : (F : Flat) (caches : List (List (Option Line))) (g e to : ℕ) → HasTables F → MayWrite F caches g e → to < table_start → Split F g e to → IsTrue (is_readable (word_of (placed F g e) to))
@@ -111,9 +111,9 @@ readable_in F caches g e to ok w user (Other page is) = subst (λ (n : ℕ). IsT
 valid_is : (f e : ℕ) → f ≡ e → is_valid f ≡ true → is_valid e ≡ true
 valid_is f e is valid = ap (λ (n : ℕ). is_valid n) (sym is) ∙ valid
 
-frame_in : (F : Flat) (caches : List (List (Option Line))) (g e to : ℕ) → HasTables F → MayWrite F caches g e → to < table_start → is_valid (word_of (placed F g e) to) ≡ true → Split F g e to → IsFrame F (number_of (word_of (placed F g e) to))
-frame_in F caches g e to ok w user valid (Same page is) = subst (λ (n : ℕ). IsFrame F (number_of n)) (sym is) (w.frame (valid_is (word_of (placed F g e) to) e is valid))
-frame_in F caches g e to ok w user valid (Other page is) = subst (λ (n : ℕ). IsFrame F (number_of n)) (sym is) (ok.frame to user (valid_is (word_of (placed F g e) to) (word_of F to) is valid))
+frame_in : (F : Flat) (caches : List (List (Option Line))) (g e to : ℕ) → HasTables F → MayWrite F caches g e → to < table_start → is_valid (word_of (placed F g e) to) ≡ true → Split F g e to → IsPageFrame F (number_of (word_of (placed F g e) to))
+frame_in F caches g e to ok w user valid (Same page is) = subst (λ (n : ℕ). IsPageFrame F (number_of n)) (sym is) (w.frame (valid_is (word_of (placed F g e) to) e is valid))
+frame_in F caches g e to ok w user valid (Other page is) = subst (λ (n : ℕ). IsPageFrame F (number_of n)) (sym is) (ok.frame to user (valid_is (word_of (placed F g e) to) (word_of F to) is valid))
 
 apart_in : (F : Flat) (caches : List (List (Option Line))) (g e to so : ℕ) → HasTables F → MayWrite F caches g e → to < table_start → so < table_start
     → is_valid (word_of (placed F g e) to) ≡ true → is_valid (word_of (placed F g e) so) ≡ true → number_of (word_of (placed F g e) to) ≡ number_of (word_of (placed F g e) so)
@@ -148,7 +148,7 @@ tables-written F caches g e p w =
       root_readable = λ (r : ℕ) (small : r < user_roots). subst (λ (n : ℕ). IsTrue (is_readable n)) (sym (kept r small)) (ok.root_readable r small);
       readable = λ (to : ℕ) (user : to < table_start). readable_in F caches g e to ok w user (split F g e to p user);
       root_frame = λ (r : ℕ) (small : r < user_roots) (valid : is_valid (slice_index G.words r) ≡ true).
-          is_frame F g e (number_of (slice_index G.words r)) (subst (λ (n : ℕ). IsFrame F (number_of n)) (sym (kept r small)) (ok.root_frame r small (v r small valid)));
+          is_frame F g e (number_of (slice_index G.words r)) (subst (λ (n : ℕ). IsPageFrame F (number_of n)) (sym (kept r small)) (ok.root_frame r small (v r small valid)));
       frame = λ (to : ℕ) (user : to < table_start) (valid : is_valid (word_of G to) ≡ true). is_frame F g e (number_of (word_of G to)) (frame_in F caches g e to ok w user valid (split F g e to p user));
       root_apart = λ (r s : ℕ) (sr : r < user_roots) (ss : s < user_roots) (vr : is_valid (slice_index G.words r) ≡ true) (vs : is_valid (slice_index G.words s) ≡ true) (same : number_of (slice_index G.words r) ≡ number_of (slice_index G.words s)).
           ok.root_apart r s sr ss (v r sr vr) (v s ss vs) (ap (λ (n : ℕ). number_of n) (sym (kept r sr)) ∙ same ∙ ap (λ (n : ℕ). number_of n) (kept s ss));

@@ -3,13 +3,13 @@ use Rattle.std.proofs.Common.{◌≡◌, ◌≢◌, ◌∙◌, ℕ, ◌+◌, ◌
 use Rattle.std.proofs.lemmas.Bool.{cases_eq, eq-eqb, false≢true}
 use Rattle.std.proofs.lemmas.List.{get_or-set_other, get_or-set_same, length-set}
 use Rattle.std.proofs.lemmas.Option.{none-some}
-use Rattle.spur_addr.specs.Address.{page_of}
+use Rattle.spur_addr.specs.Address.{page_of, page_address, user_pages}
 use Rattle.spur_addr.specs.PageEntry.{is_leaving, is_valid, number_of}
 use Rattle.spur_flat.specs.declared.flat.Flat.{Flat}
 use Rattle.spur_flat.specs.Pager.{position_in, word_of}
 use Rattle.spur_frames.specs.Frames.{Frames, IsFrame, holder_of, release_frame, unless}
 use Rattle.spur_frames.specs.Clock.{page_held}
-use Rattle.spur_pager.specs.Stand.{AreFramed, HoldsPage, page_address, user_pages}
+use Rattle.spur_pager.specs.Stand.{AreFramed, FrameHolds}
 use Rattle.spur_pager.proofs.EntryFacts.{Entries, IsAbove, entries, page_again}
 use Rattle.spur_pager.proofs.PlaceFacts.{placed}
 
@@ -30,7 +30,7 @@ framed_swap F swap frames ok = record {
 pub record IsLeft (F : Flat) (frames : Frames) (frame page slot new : ℕ) : Type 0 where
   pub is_frame : IsFrame frames frame
   pub held : holder_of frames frame ≡ Some (page, slot)
-  pub holds : HoldsPage F frame page slot
+  pub holds : FrameHolds F frame page slot
   pub leaving : is_leaving (word_of F (page_address page)) ≡ true
   pub new_valid : is_valid new ≡ false
 
@@ -70,7 +70,7 @@ module _ (F : Flat) (frames : Frames) (frame page slot new : ℕ) (a : IsAbove F
   stays : (p : ℕ) → p < user_pages → p ≢ page → word_of (placed F g new) (page_address p) ≡ word_of F (page_address p)
   stays p small apart = e.others p small (λ (same : p ≡ page_of g). apart (same ∙ page_again page))
 
-  taken_other : (f p s : ℕ) → f - frames.first ≢ frame - frames.first → HoldsPage F f p s → HoldsPage (placed F g new) f p s
+  taken_other : (f p s : ℕ) → f - frames.first ≢ frame - frames.first → FrameHolds F f p s → FrameHolds (placed F g new) f p s
   taken_other f p s apart h =
       let other : p ≢ page = λ (same : p ≡ page).
       apart (ap (λ (n : ℕ). n - frames.first) (sym h.number ∙ ap (λ (q : ℕ). number_of (word_of F (page_address q))) same ∙ l.holds.number)) in

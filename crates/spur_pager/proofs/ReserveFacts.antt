@@ -6,15 +6,15 @@ use Rattle.spur_flat.specs.declared.access.FaultKind.{FaultKind}
 use Rattle.spur_flat.specs.declared.access.FaultKind.TheVariants as fault
 use Rattle.spur_flat.specs.declared.flat.Flat.{Flat}
 use Rattle.spur_flat.specs.Pager.{word_of}
-use Rattle.spur_frames.specs.Clock.{page_in}
+use Rattle.spur_frames.specs.Clock.{page_of_frame}
 use Rattle.spur_frames.specs.Frames.{Frames, least_free}
 use Rattle.spur_walk.specs.Bounds.{steps_left}
 use Rattle.spur_walk.proofs.BoundFacts.{steps-few}
 use Rattle.spur_walk.proofs.StepFacts.{same_flat}
 use Rattle.spur_pager.specs.View.{View}
 use Rattle.spur_pager.specs.Stand.{IsServable, flat_in}
-use Rattle.spur_pager.specs.Course.{victim_of}
-use Rattle.spur_pager.specs.Room.{entry_room, free_room, lines_of, room_for}
+use Rattle.spur_pager.specs.Course.{outgoing_frame}
+use Rattle.spur_pager.specs.Room.{entry_room, free_room, page_line_count, room_for}
 use Rattle.spur_pager.specs.Faults.{faults_by, faults_left, one_if_clear}
 use Rattle.spur_pager.specs.Reserve.{FaultHasRoom, MovedLeavesRoom, ServedLeavesRoom, StepsLeaveRoom, TurnRoomIsBounded, freeing_room, out_by, out_of, out_room}
 use Rattle.spur_pager.proofs.AgainFacts.{step-has-stepped}
@@ -41,7 +41,7 @@ missing_most w None servable is =
 room_most : (w : View) (kind : FaultKind) → IsServable w → room_for w kind ≤ most_for (length w.frames.held) (length w.caches) (least_free w.frames) kind
 room_most w fault.Missing servable = missing_most w (least_free w.frames) servable refl
 room_most w fault.Leaving servable =
-    let few : lines_of w.caches (page_in w.frames (victim_of w)) ≤ 128 * length w.caches = page-lines-are-few w (page_in w.frames (victim_of w)) servable in
+    let few : page_line_count w.caches (page_of_frame w.frames (outgoing_frame w)) ≤ 128 * length w.caches = page-lines-are-few w (page_of_frame w.frames (outgoing_frame w)) servable in
     omega arith
 room_most w fault.Reference servable = omega arith
 room_most w fault.Dirty servable = omega arith

@@ -3,7 +3,7 @@ use Rattle.std.proofs.Common.{◌≡◌, ◌∙◌, ℕ, ◌+◌, ◌<◌, ◌�
 use Rattle.std.specs.Prelude.{IsSome, Ok, Err}
 use Rattle.std.proofs.lemmas.Bool.{and_parts, not-true}
 use Rattle.std.proofs.lemmas.List.{append-nil}
-use Rattle.spur_addr.specs.Address.{entry_address_of, page_of, table_start}
+use Rattle.spur_addr.specs.Address.{entry_address_of, page_of, table_start, page_address}
 use Rattle.spur_addr.specs.PageEntry.{is_dirty, is_leaving, is_on_swap, is_valid, number_of, protection_of, resident_of, swapped_of}
 use Rattle.spur_cache.specs.declared.line.Line.{Line}
 use Rattle.spur_cache.specs.Lines.{word_in}
@@ -18,17 +18,17 @@ use Rattle.spur_snoop.specs.Protocol.{is_exclusive}
 use Rattle.spur_bus.specs.Boards.{line_of_block}
 use Rattle.spur_bus.specs.Calls.{HasLine}
 use Rattle.spur_frames.specs.Frames.{Frames, IsFree, IsTaken, holder_of, least_free, release_frame, take_frame}
-use Rattle.spur_frames.specs.Clock.{page_held, page_in}
+use Rattle.spur_frames.specs.Clock.{page_held, page_of_frame}
 use Rattle.spur_frames.proofs.FreeFacts.{none-is-free}
 use Rattle.spur_walk.specs.Laws.{need_of}
 use Rattle.spur_walk.specs.Steps.{HasBlock}
 use Rattle.spur_walk.proofs.AnswerFacts.{found-word, served-finds}
 use Rattle.spur_pager.specs.declared.fault.ServeFault.TheVariants as serve
 use Rattle.spur_pager.specs.View.{View}
-use Rattle.spur_pager.specs.Stand.{Stands, entry_in, page_address, standing_flat}
+use Rattle.spur_pager.specs.Stand.{Stands, entry_in, standing_flat}
 use Rattle.spur_pager.specs.Acts.{Act, Loads, page_in as page_in_act}
-use Rattle.spur_pager.specs.Course.{finish_acts, flush_acts, free_course, gained, slot_in, turn_of, victim_by, victim_of}
-use Rattle.spur_pager.specs.Room.{entry_room, free_room, lines_of}
+use Rattle.spur_pager.specs.Course.{finish_acts, flush_acts, free_service, gained, slot_in, turn_of, outgoing_by, outgoing_frame}
+use Rattle.spur_pager.specs.Room.{entry_room, free_room, page_line_count}
 use Rattle.spur_pager.specs.Runs.{Runs}
 use Rattle.spur_pager.specs.Served.{HasFault, IsStillLeaving, ServesAs}
 use Rattle.spur_pager.specs.Finish.{FailsToFinish, FailsToFree, Finishes, Frees}
@@ -57,8 +57,8 @@ leaving_entry w rest b at st within user f =
 -- its frame is the leaving one
 pub record HasLeavingFrame (w : View) (at frame : ℕ) : Type 0 where
   pub leaving : w.frames.leaving ≡ Some frame
-  pub victim : victim_of w ≡ frame
-  pub page : page_in w.frames frame ≡ page_of at
+  pub victim : outgoing_frame w ≡ frame
+  pub page : page_of_frame w.frames frame ≡ page_of at
 
 pub leaving_at : (w : View) (rest : Flat) (b at : ℕ) → Stands rest w → b < length w.caches → at < table_start → HasFault w b fault.Leaving at → HasLeavingFrame w at (number_of (entry_in w (page_of at)))
 leaving_at w rest b at st within user f =
@@ -67,7 +67,7 @@ leaving_at w rest b at st within user f =
     let is = st.framed.leaves (page_of at) small e.valid e.leaving in
     record {
       leaving = is;
-      victim = ap (λ (o : Option ℕ). victim_by o (turn_of w).leaves) is;
+      victim = ap (λ (o : Option ℕ). outgoing_by o (turn_of w).leaves) is;
       page = ap page_held (st.framed.holds (page_of at) small e.valid);
     }
 
@@ -83,12 +83,12 @@ some_free frames frame free =
 
 pub leaving_served : (b : ℕ) (w v : View) (at frame : ℕ) → IsTaken w.frames frame → HasLeavingFrame w at frame → Finishes b frame w v → ServesAs b w fault.Leaving at (Ok (tt {0})) v
 leaving_served b w v at frame taken l f =
-    let word : entry_in v (page_of at) ≡ swapped_of (slot_in w.frames (victim_of w)) (protection_of (entry_in w (page_of at))) =
+    let word : entry_in v (page_of at) ≡ swapped_of (slot_in w.frames (outgoing_frame w)) (protection_of (entry_in w (page_of at))) =
     ap (entry_in v) (sym l.page) ∙ f.word ∙ ap (λ (p : ℕ). swapped_of (slot_in w.frames frame) (protection_of (entry_in w p))) l.page
     ∙ ap (λ (n : ℕ). swapped_of (slot_in w.frames n) (protection_of (entry_in w (page_of at)))) (sym l.victim) in
     served_as b w v fault.Leaving at (Ok (tt {0}))
     (subst (λ (n : ℕ). Runs b (finish_acts b w.frames n) w v) (sym l.victim) f.runs)
-    (subst (λ (n : ℕ). w.room ≤ v.room + (lines_of w.caches (page_in w.frames n) + entry_room)) (sym l.victim) f.room)
+    (subst (λ (n : ℕ). w.room ≤ v.room + (page_line_count w.caches (page_of_frame w.frames n) + entry_room)) (sym l.victim) f.room)
     (f.frames ∙ ap (λ (n : ℕ). release_frame w.frames n) (sym l.victim))
     (record {
       word = word;
@@ -99,11 +99,11 @@ leaving_served b w v at frame taken l f =
 
 pub still_leaving_at : (b : ℕ) (w v : View) (rest : Flat) (at frame : ℕ) → Stands rest w → IsLeaving (entry_in w (page_of at)) → number_of (entry_in w (page_of at)) ≡ frame → HasLeavingFrame w at frame → FailsToFinish b frame w v → IsStillLeaving w v
 still_leaving_at b w v rest at frame st e number l f =
-    let page : page_in w.frames (victim_of w) ≡ page_of at = ap (page_in w.frames) l.victim ∙ l.page in
-    let word : entry_in v (page_in w.frames (victim_of w)) ≡ entry_in w (page_of at) =
-    ap (λ (n : ℕ). entry_in v (page_in w.frames n)) l.victim ∙ f.word ∙ ap (entry_in w) l.page in
+    let page : page_of_frame w.frames (outgoing_frame w) ≡ page_of at = ap (page_of_frame w.frames) l.victim ∙ l.page in
+    let word : entry_in v (page_of_frame w.frames (outgoing_frame w)) ≡ entry_in w (page_of at) =
+    ap (λ (n : ℕ). entry_in v (page_of_frame w.frames n)) l.victim ∙ f.word ∙ ap (entry_in w) l.page in
     record {
-      flushed = ap (λ (n : ℕ). lines_of v.caches (page_in w.frames n)) l.victim ∙ f.none;
+      flushed = ap (λ (n : ℕ). page_line_count v.caches (page_of_frame w.frames n)) l.victim ∙ f.none;
       valid = ap (λ (n : ℕ). is_valid n) word ∙ e.valid;
       number = ap (λ (n : ℕ). number_of n) word ∙ number ∙ sym l.victim;
       leaving = ap (λ (n : ℕ). is_leaving n) word ∙ e.leaving;
@@ -120,7 +120,7 @@ leaving_not_served b w v rest at frame st within user fa is f =
     let number : number_of (entry_in w (page_of at)) ≡ frame = sym there.victim ∙ l.victim in
     served_as b w v fault.Leaving at (Err serve.SwapWrite)
     (subst (λ (n : ℕ). Runs b (flush_acts w.frames n) w v) (sym l.victim) f.runs)
-    (subst (λ (n : ℕ). w.room ≤ v.room + (lines_of w.caches (page_in w.frames n) + entry_room)) (sym l.victim) (more_room (lines_of w.caches (page_in w.frames frame)) w.room v.room f.room))
+    (subst (λ (n : ℕ). w.room ≤ v.room + (page_line_count w.caches (page_of_frame w.frames n) + entry_room)) (sym l.victim) (more_room (page_line_count w.caches (page_of_frame w.frames frame)) w.room v.room f.room))
     f.frames
     (record { may = tt; rose = f.rose; leaves = still_leaving_at b w v rest at frame st e number l f })
   where
@@ -175,10 +175,10 @@ missing_served b w u v at frame slot user e number f c =
     let word : entry_in v page ≡ resident_of (gained b w) (protection_of (entry_in w page)) =
     c.word ∙ ap (λ (n : ℕ). resident_of frame (protection_of n)) same ∙ ap (λ (n : ℕ). resident_of n (protection_of (entry_in w page))) f.is in
     served_as b w v fault.Missing at (Ok (tt {0}))
-    (subst (λ (n : ℕ). Runs b ((free_course b w).acts ++ Loads n ∷ page_in_act b page n ∷ []) w v) f.is (runs_then b (free_course b w).acts (Loads frame ∷ page_in_act b page frame ∷ []) w u v f.runs c.runs))
+    (subst (λ (n : ℕ). Runs b ((free_service b w).acts ++ Loads n ∷ page_in_act b page n ∷ []) w v) f.is (runs_then b (free_service b w).acts (Loads frame ∷ page_in_act b page frame ∷ []) w u v f.runs c.runs))
     (sum (free_room w (least_free w.frames)) w.room u.room v.room f.room c.room)
-    (c.frames ∙ ap (λ (fs : Frames). take_frame fs frame page slot) f.frames ∙ ap (λ (n : ℕ). take_frame (free_course b w).frames n page slot) f.is
-    ∙ ap (λ (n : ℕ). take_frame (free_course b w).frames (gained b w) page n) (sym number))
+    (c.frames ∙ ap (λ (fs : Frames). take_frame fs frame page slot) f.frames ∙ ap (λ (n : ℕ). take_frame (free_service b w).frames n page slot) f.is
+    ∙ ap (λ (n : ℕ). take_frame (free_service b w).frames (gained b w) page n) (sym number))
     (record {
       word = word;
       walk = sym (entry_at v at) ∙ word;
@@ -195,7 +195,7 @@ missing_not_read b w u v at frame user e later f failed =
     let page : ℕ = page_of at in
     let small = user_page at user in
     served_as b w v fault.Missing at (Err serve.SwapRead)
-    (subst (λ (acts : List Act). Runs b acts w v) (append-nil (free_course b w).acts) (runs_then b (free_course b w).acts [] w u v f.runs (failed_runs b u v failed)))
+    (subst (λ (acts : List Act). Runs b acts w v) (append-nil (free_service b w).acts) (runs_then b (free_service b w).acts [] w u v f.runs (failed_runs b u v failed)))
     (unused (free_room w (least_free w.frames)) w.room u.room v.room f.room failed.room)
     (failed.frames ∙ f.frames)
     (record {

@@ -2,19 +2,19 @@
 use Rattle.std.proofs.Common.{◌≡◌, ◌≢◌, ◌∙◌, ℕ, suc, ◌+◌, ◌*◌, ◌/◌, ◌^◌, ◌<◌, ◌≤◌, ◌==◌, ◌&&◌, ◌||◌, nat_lt, nat_le, Bool, true, false, not, ap, sym, refl, List, [], ◌∷◌, length, slice_index, Option, Some, None, arith}
 use Rattle.std.specs.List.{list_any}
 use Rattle.std.proofs.lemmas.Bool.{and_from, le-leb, lt-ltb, ne_eqb, not_from_false, or_right}
-use Rattle.spur_addr.specs.Address.{page_of, table_start}
+use Rattle.spur_addr.specs.Address.{page_of, table_start, page_address, user_pages}
 use Rattle.spur_addr.specs.PageEntry.{is_on_swap, is_valid, number_of}
 use Rattle.spur_flat.specs.declared.flat.Flat.{Flat}
 use Rattle.spur_flat.specs.declared.entry.Entry.TheVariants.{PageIn}
 use Rattle.spur_flat.specs.History.{IsAllowed}
-use Rattle.spur_flat.specs.Pager.{has_frame, is_declared, is_free_frame, or_zero, slot_of, word_of}
+use Rattle.spur_flat.specs.Pager.{has_frame, is_declared, is_free_frame, or_zero, swap_slot_of, word_of}
 use Rattle.spur_flat.specs.Table.{entry_at, walk_of}
 use Rattle.spur_flat.specs.Validity.{IsDataFrame, IsTableFrame, IsValidFlat}
 use Rattle.spur_flat.proofs.PagerFacts.{declared_stands}
 use Rattle.spur_flat.proofs.WalkFacts.{walk_of-entry}
 use Rattle.spur_frames.specs.Frames.{Frames, IsFree, holder_of}
 use Rattle.spur_walk.specs.Tables.{user_roots}
-use Rattle.spur_pager.specs.Stand.{AreFramed, page_address, user_pages}
+use Rattle.spur_pager.specs.Stand.{AreFramed}
 use Rattle.spur_pager.proofs.EntryFacts.{declared_is, page_again, small_user, user_page}
 use Rattle.spur_pager.proofs.MoveFacts.{IsSpare}
 use Rattle.spur_pager.proofs.PlaceFacts.{word_page}
@@ -90,7 +90,7 @@ swapped_declared F g ok user on_swap =
     declared_is F g (ok.tables.declared (page_of g) (word_of F g) small there (or_right (is_valid (word_of F g)) (is_on_swap (word_of F g)) on_swap))
 
 -- its entry names its slot
-pub swapped_slot : (F : Flat) (g : ℕ) → IsValidFlat F → g < table_start → is_on_swap (word_of F g) ≡ true → number_of (word_of F g) ≡ slot_of F g
+pub swapped_slot : (F : Flat) (g : ℕ) → IsValidFlat F → g < table_start → is_on_swap (word_of F g) ≡ true → number_of (word_of F g) ≡ swap_slot_of F g
 swapped_slot F g ok user on_swap = (declared_stands F g ok (small_user g user) (swapped_declared F g ok user on_swap)).stands.slot on_swap
 
 pub in_allowed : (F : Flat) (frames : Frames) (b g frame : ℕ) → IsValidFlat F → AreFramed F frames → IsFree frames frame → g < table_start → is_valid (word_of F g) ≡ false → is_on_swap (word_of F g) ≡ true → IsAllowed F (PageIn b g frame)

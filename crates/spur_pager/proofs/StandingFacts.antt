@@ -15,12 +15,12 @@ use Rattle.spur_bus.specs.Boards.{first_some, line_in, line_of_block}
 use Rattle.spur_bus.proofs.OwnerFacts.{OwnsAt}
 use Rattle.spur_bus.proofs.ReadFacts.{found_in}
 use Rattle.spur_bus.proofs.WordsFacts.{length-logical, logical_index}
-use Rattle.spur_walk.specs.Plan.{held, held_in}
+use Rattle.spur_walk.specs.Plan.{cached_word, line_word}
 use Rattle.spur_walk.specs.Present.{ArePresent, MayWalk}
 use Rattle.spur_walk.specs.Tables.{HasTables, OfPage, OfRoot, OfTable, StandsIn, block_address, logical_flat, root_at}
 use Rattle.spur_walk.proofs.FrameFacts.{one_place, root_small}
 use Rattle.spur_walk.proofs.TableFacts.{entry_from, entry_to, entry_word, index_small, root_word_is, root_word_start}
-use Rattle.spur_pager.specs.Standing.{cached_word, place_in}
+use Rattle.spur_pager.specs.Standing.{first_cached_word, entry_place_in}
 use Rattle.spur_pager.proofs.FrameWordFacts.{free_word}
 use Rattle.spur_pager.proofs.LineFacts.{row}
 use Rattle.spur_pager.proofs.PlaceFacts.{within}
@@ -38,12 +38,12 @@ record IsHeld (o : Option Line) (g word : ℕ) : Type 0 where
   pub there : o ≡ Some line
   pub word_is : word ≡ slice_index line.words (word_in_block_of g)
 
-held_line : (o : Option Line) (g word : ℕ) → held_in o g ≡ Some word → IsHeld o g word
+held_line : (o : Option Line) (g word : ℕ) → line_word o g ≡ Some word → IsHeld o g word
 held_line None g word h = cc
 held_line (Some line) g word h = record { line = line; there = refl; word_is = cc }
 
-cached_first : (lines : List (Option Line)) (rest : List (List (Option Line))) (g word : ℕ) (o : Option ℕ) → held lines g ≡ o → (cached_word rest g ≡ Some word → IsCached rest g word)
-    → first_some (o ∷ map (λ (ls : List (Option Line)). held ls g) rest) ≡ Some word → IsCached (lines ∷ rest) g word
+cached_first : (lines : List (Option Line)) (rest : List (List (Option Line))) (g word : ℕ) (o : Option ℕ) → first_cached_word lines g ≡ o → (first_cached_word rest g ≡ Some word → IsCached rest g word)
+    → first_some (o ∷ map (λ (ls : List (Option Line)). first_cached_word ls g) rest) ≡ Some word → IsCached (lines ∷ rest) g word
 cached_first lines rest g word None is later h =
     let r = later h in
     let small : r.board < length rest = r.within in
@@ -52,12 +52,12 @@ cached_first lines rest g word (Some x) is later h =
     let l = held_line (found lines g) g word (is ∙ h) in
     record { board = 0; within = omega arith; line = l.line; there = l.there; word_is = l.word_is }
 
-cached_some : (caches : List (List (Option Line))) (g word : ℕ) → cached_word caches g ≡ Some word → IsCached caches g word
+cached_some : (caches : List (List (Option Line))) (g word : ℕ) → first_cached_word caches g ≡ Some word → IsCached caches g word
 cached_some [] g word h = cc
-cached_some (lines ∷ rest) g word h = cached_first lines rest g word (held lines g) refl (cached_some rest g word) h
+cached_some (lines ∷ rest) g word h = cached_first lines rest g word (first_cached_word lines g) refl (cached_some rest g word) h
 
 -- or none has it
-none_held : (o : Option Line) (g : ℕ) → held_in o g ≡ None → o ≡ None
+none_held : (o : Option Line) (g : ℕ) → line_word o g ≡ None → o ≡ None
 none_held None g h = refl
 none_held (Some line) g h = cc
 
@@ -65,11 +65,11 @@ none_first : (o : Option ℕ) (os : List (Option ℕ)) → first_some (o ∷ os)
 none_first None os h = (refl, h)
 none_first (Some x) os h = cc
 
-cached_none : (caches : List (List (Option Line))) (g i : ℕ) → cached_word caches g ≡ None → i < length caches → line_of_block caches i g ≡ None
+cached_none : (caches : List (List (Option Line))) (g i : ℕ) → first_cached_word caches g ≡ None → i < length caches → line_of_block caches i g ≡ None
 cached_none [] g i h small = absurd (omega arith)
-cached_none (lines ∷ rest) g zero h small = none_held (found lines g) g (none_first (held lines g) (map (λ (ls : List (Option Line)). held ls g) rest) h).0
+cached_none (lines ∷ rest) g zero h small = none_held (found lines g) g (none_first (first_cached_word lines g) (map (λ (ls : List (Option Line)). first_cached_word ls g) rest) h).0
 cached_none (lines ∷ rest) g (suc i) h small =
-    cached_none rest g i (none_first (held lines g) (map (λ (ls : List (Option Line)). held ls g) rest) h).1 (omega arith)
+    cached_none rest g i (none_first (first_cached_word lines g) (map (λ (ls : List (Option Line)). first_cached_word ls g) rest) h).1 (omega arith)
 
 -- what stands in a frame below 64 is of the root
 low_is_root : (F : Flat) (block frame : ℕ) → HasTables F → StandsIn F block frame → frame < 64 → root_start ≤ block_address block
@@ -117,13 +117,13 @@ module _ (caches : List (List (Option Line))) (memory : List ℕ) (g : ℕ) (use
       let low : l.frame < 64 = omega arith in
       false≢true (sym (present.unowned i s l there (low_is_root F l.tag l.frame walk.tables (walk.mapped i s l there) low)) ∙ o.owned))
 
-  place_is : place_in memory g ≡ entry_place F g
+  place_is : entry_place_in memory g ≡ entry_place F g
   place_is = ap (λ (r : ℕ). number_of r * 1024 + g / 2 ^ 12 % 1024) (sym root_is)
 
   place_below : entry_place F g < length memory
   place_below = subst (λ (n : ℕ). entry_place F g < n) (length-logical caches memory) (within F g (record { tables = walk.tables; user = user; valid = valid }))
 
-  pub place_within : place_in memory g < length memory
+  pub place_within : entry_place_in memory g < length memory
   place_within = subst (λ (n : ℕ). n < length memory) (sym place_is) place_below
 
   word_is : word_of F g ≡ slice_index F.words (entry_place F g)
@@ -142,7 +142,7 @@ module _ (caches : List (List (Option Line))) (memory : List ℕ) (g : ℕ) (use
   position_is = let r : (number_of (root_at F g) * 1024 + g / 2 ^ 12 % 1024) / 8 % 128 ≡ (255 * 2 ^ 30 + 4 * (g / 2 ^ 12)) / 2 ^ 5 % 128 = omega arith in r
 
   -- where no cache has the block, none owns the word
-  pub memory_has : cached_word caches at ≡ None → slice_index memory (place_in memory g) ≡ word_of F g
+  pub memory_has : first_cached_word caches at ≡ None → slice_index memory (entry_place_in memory g) ≡ word_of F g
   memory_has none =
       ap (slice_index memory) place_is
       ∙ sym (word_is ∙ logical_index caches memory (entry_place F g) place_below
@@ -156,7 +156,7 @@ module _ (caches : List (List (Option Line))) (memory : List ℕ) (g : ℕ) (use
       cc))
 
   -- and a line of the block has it
-  pub cached_has : (word : ℕ) → cached_word caches at ≡ Some word → word ≡ word_of F g
+  pub cached_has : (word : ℕ) → first_cached_word caches at ≡ Some word → word ≡ word_of F g
   cached_has word is =
       let c = cached_some caches at word is in
       c.word_is ∙ sym (entry_word caches memory c.board g c.line walk c.within user c.there)

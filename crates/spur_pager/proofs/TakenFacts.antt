@@ -4,18 +4,19 @@ use Rattle.std.proofs.Common.{◌≡◌, ◌≢◌, ◌∙◌, ℕ, ◌+◌, ◌
 use Rattle.std.specs.Prelude.{IsSome}
 use Rattle.std.proofs.lemmas.Bool.{cases_eq, false≢true}
 use Rattle.std.proofs.lemmas.List.{get_or-set_other, get_or-set_same, length-set}
-use Rattle.spur_addr.specs.Address.{page_of, table_start}
+use Rattle.spur_addr.specs.Address.{page_of, table_start, page_address, user_pages}
 use Rattle.spur_addr.specs.PageEntry.{is_dirty, is_leaving, is_on_swap, is_valid, number_of, protection_of, resident_of}
 use Rattle.spur_addr.proofs.EntryFacts.{is_leaving-resident, is_valid-resident, number_of-resident}
 use Rattle.spur_flat.specs.declared.flat.Flat.{Flat}
-use Rattle.spur_flat.specs.Pager.{is_declared, position_in, slot_of, word_of}
+use Rattle.spur_flat.specs.Pager.{is_declared, position_in, swap_slot_of, word_of}
 use Rattle.spur_addr.specs.Pages.{page_at}
 use Rattle.spur_flat.specs.Validity.{IsDataFrame, IsDeclared, IsValidFlat}
 use Rattle.spur_flat.proofs.PagerFacts.{declared_stands, frame_inside}
 use Rattle.spur_frames.specs.Frames.{AreFrames, Frames, IsFrame, IsFree, holder_of, take_frame}
-use Rattle.spur_frames.specs.Clock.{page_held, page_in}
+use Rattle.spur_frames.specs.Clock.{page_held, page_of_frame}
 use Rattle.spur_pager.specs.Course.{slot_held}
-use Rattle.spur_pager.specs.Stand.{AreClean, AreFramed, HoldsPage, page_address, user_pages}
+use Rattle.spur_pager.specs.Stand.{AreFramed, FrameHolds}
+use Rattle.spur_flat.specs.Clean.{AreClean}
 use Rattle.spur_pager.proofs.EntryFacts.{Entries, IsAbove, above, data_frame, entries, leaving_page, leaving_taken, page_again, page_user, small_user}
 use Rattle.spur_pager.proofs.LoadFacts.{MayPut, entry_kept, put, put_is, valid_put}
 use Rattle.spur_pager.proofs.OptionFacts.{some_not_none}
@@ -113,9 +114,9 @@ module _ (F : Flat) (frames : Frames) (frame page : ℕ) (words : List ℕ) (lon
   page_declared : IsDeclared F.pages page
   page_declared =
       let s = declared_stands F g may.valid (small_user g user) declared in
-      record { position = slot_of F g; within = s.within; is = s.is ∙ page_again page }
+      record { position = swap_slot_of F g; within = s.within; is = s.is ∙ page_again page }
 
-  holds_here : HoldsPage now frame page (position_in F.pages page)
+  holds_here : FrameHolds now frame page (position_in F.pages page)
   holds_here = record {
     small = may.small;
     declared = page_declared;
@@ -128,19 +129,19 @@ module _ (F : Flat) (frames : Frames) (frame page : ℕ) (words : List ℕ) (lon
   apart_valid : (p : ℕ) → is_valid (word_of F (page_address p)) ≡ true → p ≢ page
   apart_valid p valid same = false≢true (sym may.absent ∙ ap (λ (q : ℕ). is_valid (word_of F (page_address q))) (sym same) ∙ valid)
 
-  holds_other : (f p s : ℕ) → HoldsPage F f p s → HoldsPage now f p s
+  holds_other : (f p s : ℕ) → FrameHolds F f p s → FrameHolds now f p s
   holds_other f p s h =
       let e = other p h.small (apart_valid p h.valid) in
       record { small = h.small; declared = h.declared; slot_is = h.slot_is; valid = ap (λ (n : ℕ). is_valid n) e ∙ h.valid; number = ap (λ (n : ℕ). number_of n) e ∙ h.number }
 
-  taken_is : (f p s : ℕ) → IsFrame taken f → holder_of taken f ≡ Some (p, s) → HoldsPage now f p s
+  taken_is : (f p s : ℕ) → IsFrame taken f → holder_of taken f ≡ Some (p, s) → FrameHolds now f p s
   taken_is f p s is has =
       ⊎_elim
       (λ (same : f ≡ frame).
       let both : Some (page, position_in F.pages page) ≡ Some (p, s) = sym (this_held frames frame page (position_in F.pages page) may.free) ∙ ap (holder_of taken) (sym same) ∙ has in
       let p_is : page ≡ p = ap page_held both in
       let s_is : position_in F.pages page ≡ s = ap slot_held both in
-      subst (λ (n : ℕ). HoldsPage now n p s) (sym same) (subst (λ (n : ℕ). HoldsPage now frame p n) s_is (subst (λ (q : ℕ). HoldsPage now frame q (position_in F.pages page)) p_is holds_here)))
+      subst (λ (n : ℕ). FrameHolds now n p s) (sym same) (subst (λ (n : ℕ). FrameHolds now frame p n) s_is (subst (λ (q : ℕ). FrameHolds now frame q (position_in F.pages page)) p_is holds_here)))
       (λ (apart : f ≢ frame).
       let size : length taken.held ≡ length frames.held = length-set frames.held (frame - frames.first) (Some (page, position_in F.pages page)) in
       let high : f < frames.first + length taken.held = is.high in
@@ -168,13 +169,13 @@ module _ (F : Flat) (frames : Frames) (frame page : ℕ) (words : List ℕ) (lon
       let s = declared_stands F g may.valid (small_user g user) declared in
       false≢true (sym may.absent ∙ s.stands.leaving (ap (λ (q : ℕ). is_leaving (word_of F (page_address q))) (sym same) ∙ leaving))
 
-  leaving_is : AreFrames frames → (f : ℕ) → frames.leaving ≡ Some f → is_leaving (word_of now (page_address (page_in taken f))) ≡ true
+  leaving_is : AreFrames frames → (f : ℕ) → frames.leaving ≡ Some f → is_leaving (word_of now (page_address (page_of_frame taken f))) ≡ true
   leaving_is table f is =
       let s = staying frames frame f table may.free is in
-      let p : ℕ = page_in frames f in
+      let p : ℕ = page_of_frame frames f in
       let small : p < user_pages = leaving_page F frames f may.framed s.is s.some in
       let was : is_leaving (word_of F (page_address p)) ≡ true = may.framed.leaving f is in
-      let same : page_in taken f ≡ p = ap page_held (other_held frames frame page (position_in F.pages page) f may.free.low s.low s.apart) in
+      let same : page_of_frame taken f ≡ p = ap page_held (other_held frames frame page (position_in F.pages page) f may.free.low s.low s.apart) in
       ap (λ (q : ℕ). is_leaving (word_of now (page_address q))) same ∙ ap (λ (e : ℕ). is_leaving e) (other p small (was_staying p small was)) ∙ was
 
   leaves_is : (p : ℕ) → p < user_pages → is_valid (word_of now (page_address p)) ≡ true → is_leaving (word_of now (page_address p)) ≡ true → frames.leaving ≡ Some (number_of (word_of now (page_address p)))
@@ -202,12 +203,12 @@ module _ (F : Flat) (frames : Frames) (frame page : ℕ) (words : List ℕ) (lon
   data_kept n among apart = all.data_words n among.low ∙ page_other F.words words frame n (put_is F frame words may_put) (frame_inside F n may.valid among) apart
 
   -- and clean pages have the words of their slots, where the words are those of the page's slot
-  pub clean_taken : words ≡ page_at F.swap (slot_of F g) → AreClean F → AreClean now
+  pub clean_taken : words ≡ page_at F.swap (swap_slot_of F g) → AreClean F → AreClean now
   clean_taken words_are clean p small valid clear =
       ⊎_elim
       (λ (same : p ≡ page).
       ap (λ (q : ℕ). page_at now.words (number_of (word_of now (page_address q)))) same ∙ ap (λ (e : ℕ). page_at now.words (number_of e)) here ∙ ap (page_at now.words) new_number
-      ∙ all.data_words frame may_put.among.low ∙ page_put F.words words frame (put_is F frame words may_put) ∙ words_are ∙ ap (λ (q : ℕ). page_at F.swap (slot_of F (page_address q))) (sym same))
+      ∙ all.data_words frame may_put.among.low ∙ page_put F.words words frame (put_is F frame words may_put) ∙ words_are ∙ ap (λ (q : ℕ). page_at F.swap (swap_slot_of F (page_address q))) (sym same))
       (λ (apart : p ≢ page).
       let e = other p small apart in
       let was : is_valid (word_of F (page_address p)) ≡ true = ap (λ (n : ℕ). is_valid n) (sym e) ∙ valid in

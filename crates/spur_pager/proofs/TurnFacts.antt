@@ -13,10 +13,11 @@ use Rattle.spur_frames.specs.Laws.{HaveOwnPages}
 use Rattle.spur_frames.proofs.ClockFacts.{clear-leaves, set-bits-fall, set-is-cleared-and-passed}
 use Rattle.spur_frames.proofs.FreeFacts.{none-is-taken}
 use Rattle.spur_pager.specs.View.{View}
-use Rattle.spur_pager.specs.Stand.{AreFramed, IsServable, Stands, entry_in, page_address, standing_flat, user_pages}
+use Rattle.spur_pager.specs.Stand.{AreFramed, IsServable, Stands, entry_in, standing_flat}
+use Rattle.spur_addr.specs.Address.{page_address, user_pages}
 use Rattle.spur_pager.specs.Acts.{Act, clear_referenced, leave}
 use Rattle.spur_pager.specs.Course.{bits_in, clock_acts, frame_held, turn_of}
-use Rattle.spur_pager.specs.Room.{entry_room, lines_of}
+use Rattle.spur_pager.specs.Room.{entry_room, page_line_count}
 use Rattle.spur_pager.specs.Runs.{Runs}
 use Rattle.spur_pager.specs.Looks.{Clears, Clocks, HasNoMoreLines, IsLooked, KeepsAbsent, Leaves, Looks}
 use Rattle.spur_pager.proofs.JoinFacts.{carried_none, runs_none, runs_then}
@@ -78,9 +79,9 @@ absent_then w u v first second page small absent =
 
 lines_then : (w u v : View) → HasNoMoreLines w u → HasNoMoreLines u v → HasNoMoreLines w v
 lines_then w u v first second page small =
-    let before : lines_of u.caches page ≤ lines_of w.caches page = first page small in
-    let after : lines_of v.caches page ≤ lines_of u.caches page = second page small in
-    let r : lines_of v.caches page ≤ lines_of w.caches page = omega arith in r
+    let before : page_line_count u.caches page ≤ page_line_count w.caches page = first page small in
+    let after : page_line_count v.caches page ≤ page_line_count u.caches page = second page small in
+    let r : page_line_count v.caches page ≤ page_line_count w.caches page = omega arith in r
 
 pub nothing_runs : (b : ℕ) (w : View) → Runs b [] w w
 nothing_runs b w =
@@ -109,17 +110,17 @@ abbrev pub left : View → ℕ
 left u = set_count (bits_in u) (round u.frames)
 
 record Cleared (b : ℕ) (u v : View) (frame : ℕ) : Type 0 where
-  pub bit : bits_in u (clock.page_in u.frames frame) ≡ true
-  pub runs : Runs b (clear_referenced b (clock.page_in u.frames frame) ∷ []) u v
+  pub bit : bits_in u (clock.page_of_frame u.frames frame) ≡ true
+  pub runs : Runs b (clear_referenced b (clock.page_of_frame u.frames frame) ∷ []) u v
   pub frames : v.frames ≡ passed u.frames
-  pub bits : IsCleared (bits_in u) (clock.page_in u.frames frame) (bits_in v)
+  pub bits : IsCleared (bits_in u) (clock.page_of_frame u.frames frame) (bits_in v)
 
 cleared_is : (b : ℕ) (u v : View) (frame : ℕ) → IsLooked b u v frame false → Cleared b u v frame
 cleared_is b u v frame (Clears bit run frames bits) = record { bit = bit; runs = run; frames = frames; bits = bits }
 
 record LeftAt (b : ℕ) (u v : View) (frame : ℕ) : Type 0 where
-  pub bit : bits_in u (clock.page_in u.frames frame) ≡ false
-  pub runs : Runs b (leave b (clock.page_in u.frames frame) ∷ []) u v
+  pub bit : bits_in u (clock.page_of_frame u.frames frame) ≡ false
+  pub runs : Runs b (leave b (clock.page_of_frame u.frames frame) ∷ []) u v
   pub frames : v.frames ≡ record (passed u.frames) { leaving = Some frame }
 
 left_is : (b : ℕ) (u v : View) (frame : ℕ) → IsLooked b u v frame true → LeftAt b u v frame
@@ -138,7 +139,7 @@ fewer b u v s l =
 pub turning_more : (b : ℕ) (w u v : View) → IsTurning b w u → Looks b u v false → IsTurning b w v
 turning_more b w u v t l =
     let c = cleared_is b u v l.frame l.looked in
-    let page : ℕ = clock.page_in u.frames l.frame in
+    let page : ℕ = clock.page_of_frame u.frames l.frame in
     let own = own_pages (standing_flat t.stands.rest u) u.frames t.stands.stands.framed in
     let turn : turn_of u ≡ clearing_turn page (turn_of v) =
     set-is-cleared-and-passed u.frames (bits_in u) (bits_in v) l.frame own l.found c.bit c.bits ∙ ap (λ (fs : Frames). clearing_turn page (clock fs (bits_in v))) (sym c.frames) in
@@ -172,11 +173,11 @@ turned_all b w u v t l =
     let last : turn_of u ≡ leaving_turn u.frames l.frame = clear-leaves u.frames (bits_in u) l.frame l.found c.bit in
     let turn : turn_of w ≡ record (leaving_turn u.frames l.frame) { cleared = t.cleared } =
     t.turn ∙ ap (λ (x : Turn). record x { cleared = t.cleared ++ x.cleared }) last ∙ ap (λ (ps : List ℕ). record (leaving_turn u.frames l.frame) { cleared = ps }) (append-nil t.cleared) in
-    let page : clock.page_in u.frames l.frame ≡ clock.page_in w.frames l.frame = ap (λ (fs : Frames). clock.page_in fs l.frame) t.frames in
-    let acts : clock_acts b w.frames (turn_of w) ≡ map (clear_referenced b) t.cleared ++ leave b (clock.page_in u.frames l.frame) ∷ [] =
+    let page : clock.page_of_frame u.frames l.frame ≡ clock.page_of_frame w.frames l.frame = ap (λ (fs : Frames). clock.page_of_frame fs l.frame) t.frames in
+    let acts : clock_acts b w.frames (turn_of w) ≡ map (clear_referenced b) t.cleared ++ leave b (clock.page_of_frame u.frames l.frame) ∷ [] =
     ap (λ (x : Turn). clock_acts b w.frames x) turn ∙ ap (λ (p : ℕ). map (clear_referenced b) t.cleared ++ leave b p ∷ []) (sym page) in
     record {
-      runs = subst (λ (done : List Act). Runs b done w v) (sym acts) (runs_then b (map (clear_referenced b) t.cleared) (leave b (clock.page_in u.frames l.frame) ∷ []) w u v t.runs c.runs);
+      runs = subst (λ (done : List Act). Runs b done w v) (sym acts) (runs_then b (map (clear_referenced b) t.cleared) (leave b (clock.page_of_frame u.frames l.frame) ∷ []) w u v t.runs c.runs);
       frames = c.frames ∙ ap (λ (fs : Frames). record fs { hand = hand_past u.frames (looked_at u.frames); leaving = Some l.frame }) t.frames
           ∙ ap (λ (o : Option ℕ). record w.frames { hand = hand_past u.frames o; leaving = Some l.frame }) l.found
           ∙ ap (λ (x : Turn). record w.frames { hand = x.hand; leaving = Some (frame_held x.leaves) }) (sym turn);

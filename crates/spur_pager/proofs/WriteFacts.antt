@@ -5,7 +5,7 @@ use Rattle.std.proofs.lemmas.List.{length-set}
 use Rattle.spur_addr.specs.Address.{block_of, entry_address_of, root_index_of, table_start, word_in_block_of}
 use Rattle.spur_addr.specs.PageEntry.{is_valid, number_of}
 use Rattle.spur_cache.specs.declared.line.Line.{Line}
-use Rattle.spur_cache.specs.Lines.{changed_found, found, line_at, slot_of, written}
+use Rattle.spur_cache.specs.Lines.{changed_found, found, line_at, index_of, written}
 use Rattle.spur_cache.proofs.CacheFacts.{found_held}
 use Rattle.spur_snoop.specs.declared.BlockState.TheVariants.{OwnedExclusive}
 use Rattle.spur_flat.specs.declared.flat.Flat.{Flat}
@@ -81,11 +81,11 @@ set_same [] s line h = refl
 set_same (z ∷ zs) zero line h = ap (λ (o : Option Line). o ∷ zs) (sym h)
 set_same (z ∷ zs) (suc s) line h = ap (λ (rest : List (Option Line)). z ∷ rest) (set_same zs s line h)
 
-tags-written : (caches : List (List (Option Line))) (b g n e : ℕ) (line : Line) → b < length caches → line_in caches b (slot_of (get_or caches b []) (block_of g)) ≡ Some line
-    → tags_of (put caches b (slot_of (get_or caches b []) (block_of g)) (written n e line)) ≡ tags_of caches
+tags-written : (caches : List (List (Option Line))) (b g n e : ℕ) (line : Line) → b < length caches → line_in caches b (index_of (get_or caches b []) (block_of g)) ≡ Some line
+    → tags_of (put caches b (index_of (get_or caches b []) (block_of g)) (written n e line)) ≡ tags_of caches
 tags-written caches b g n e line within there =
     let own : List (Option Line) = get_or caches b [] in
-    let slot : ℕ = slot_of own (block_of g) in
+    let slot : ℕ = index_of own (block_of g) in
     L.map-set cache_tags caches b (slice_set own slot (Some (written n e line)))
     ∙ ap (slice_set (tags_of caches) b) (with-tags own (block_of g) (Some (written n e line)) ∙ sym (with-tags own (block_of g) (Some line)))
     ∙ sym (L.map-set cache_tags caches b (slice_set own slot (Some line)))
@@ -117,7 +117,7 @@ writes caches news memory b g e may within_b user has may_write news_is =
     let own : List (Option Line) = get_or caches b [] in
     let at : ℕ = entry_address_of g in
     let n : ℕ = word_in_block_of at in
-    let slot : ℕ = slot_of own (block_of at) in
+    let slot : ℕ = index_of own (block_of at) in
     let fresh : Line = written n e line in
     let after : List (List (Option Line)) = put caches b slot fresh in
     let here = is_here caches b at line within_b has.there in
@@ -149,7 +149,7 @@ writes caches news memory b g e may within_b user has may_write news_is =
       exclusive = record {
         line = fresh;
         there = ap (λ (ls : List (Option Line)). found ls at)
-            (L.get_or-set_same caches b (slice_set own slot (Some fresh)) [] within_b ∙ ap (λ (m : ℕ). slice_set own (slot_of own m) (Some fresh)) (sym here.tag))
+            (L.get_or-set_same caches b (slice_set own slot (Some fresh)) [] within_b ∙ ap (λ (m : ℕ). slice_set own (index_of own m) (Some fresh)) (sym here.tag))
             ∙ found_same own fresh at (own_cache caches b may.agree within_b) here.tag;
         passes = ap is_exclusive has.exclusive;
       };

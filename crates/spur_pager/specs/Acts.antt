@@ -1,6 +1,6 @@
 -- What the pager does, act by act, and the entries that each act appends.
 use Rattle.std.specs.Prelude.{ℕ, ◌≡◌, ◌+◌, ◌*◌, true, false, if◌then◌else◌, List, [], ◌∷◌, ◌++◌, get_or, length, map, slice_set, Option, Some, None}
-use Rattle.spur_addr.specs.Address.{entry_address_of}
+use Rattle.spur_addr.specs.Address.{entry_address_of, page_address}
 use Rattle.spur_addr.specs.PageEntry.{protection_of, resident_of, swapped_of, with_bit}
 use Rattle.spur_cache.specs.declared.line.Line.{Line}
 use Rattle.spur_cache.specs.Lens.{Lens, caches}
@@ -15,7 +15,6 @@ use Rattle.spur_walk.specs.declared.step.Walked.TheVariants as walked
 use Rattle.spur_walk.specs.Plan.{page_plan}
 use Rattle.spur_walk.specs.Steps.{answer_of, stepped, stepped_memory}
 use Rattle.spur_walk.specs.Tables.{block_address, logical_flat}
-use Rattle.spur_pager.specs.Stand.{page_address}
 
 -- caches and memory
 pub record Hold : Type 0 where

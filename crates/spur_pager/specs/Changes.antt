@@ -7,18 +7,18 @@ use Rattle.spur_flat.specs.Pager.{word_of}
 use Rattle.spur_walk.specs.Tables.{logical_flat}
 use Rattle.spur_pager.specs.declared.change.Change.{Change}
 use Rattle.spur_pager.specs.declared.change.Change.TheVariants.{Referenced, Unreferenced, Dirty, Leaving, Out, In}
-use Rattle.spur_pager.specs.Past.{Past}
+use Rattle.spur_flat.specs.Past.{Past}
 use Rattle.spur_pager.specs.Acts.{Hold, IsFetch, written_in}
 use Rattle.spur_pager.specs.Fetch.{Leads}
 use Rattle.spur_pager.specs.Writes.{MayWrite, Writes}
 
-abbrev pub changed : Change → ℕ → ℕ
-changed Referenced e = with_bit e 1 true
-changed Unreferenced e = with_bit e 1 false
-changed Dirty e = with_bit e 2 true
-changed Leaving e = with_bit e 6 true
-changed (Out slot) e = swapped_of slot (protection_of e)
-changed (In frame) e = resident_of frame (protection_of e)
+abbrev pub changed_word : Change → ℕ → ℕ
+changed_word Referenced e = with_bit e 1 true
+changed_word Unreferenced e = with_bit e 1 false
+changed_word Dirty e = with_bit e 2 true
+changed_word Leaving e = with_bit e 6 true
+changed_word (Out slot) e = swapped_of slot (protection_of e)
+changed_word (In frame) e = resident_of frame (protection_of e)
 
 abbrev pub entry_for : Change → ℕ → ℕ → Entry
 entry_for Referenced b g = SetRef b g
@@ -35,21 +35,21 @@ is_small (In frame) = frame < 2 ^ 20
 is_small change = ⊤
 
 -- the word of the entry of the page of g
-abbrev pub word_in : Hold → ℕ → ℕ
-word_in h g = word_of (logical_flat h.caches h.memory) g
+abbrev pub entry_word : Hold → ℕ → ℕ
+entry_word h g = word_of (logical_flat h.caches h.memory) g
 
--- the changed entry may be written wherever the steps towards it lead
+-- the changed_word entry may be written wherever the steps towards it lead
 abbrev pub MayChange : ℕ → ℕ → Change → Hold → Type 0
-MayChange b g change from = (fetched : List Entry) (mid : Hold) → Leads b g from fetched mid → MayWrite (logical_flat mid.caches mid.memory) mid.caches g (changed change (word_in mid g))
+MayChange b g change from = (fetched : List Entry) (mid : Hold) → Leads b g from fetched mid → MayWrite (logical_flat mid.caches mid.memory) mid.caches g (changed_word change (entry_word mid g))
 
--- An entry was changed: its block was brought, its word was written in cache b, and the entries were appended.
+-- An entry was changed_word: its block was brought, its word was written in cache b, and the entries were appended.
 pub record Changes (b g : ℕ) (change : Change) (from : Hold) (before : Past) (to : Hold) (after : Past) : Type 0 where
   pub fetched : List Entry
   pub mid : Hold
   pub fetch : IsFetch b g from fetched mid
   pub leads : Leads b g from fetched mid
-  pub to_is : to ≡ written_in b g (changed change) mid
-  pub writes : Writes mid.caches mid.memory b g (changed change (word_in mid g)) to.caches
+  pub to_is : to ≡ written_in b g (changed_word change) mid
+  pub writes : Writes mid.caches mid.memory b g (changed_word change (entry_word mid g)) to.caches
   pub entries : after.entries ≡ before.entries ++ (fetched ++ entry_for change b g ∷ [])
   pub room : after.room + length (fetched ++ entry_for change b g ∷ []) ≡ before.room
 
@@ -59,7 +59,7 @@ clock_change e = if is_referenced e then Unreferenced else Leaving
 
 -- that, of the entry of the page of g as it stands
 abbrev pub ticked : Hold → ℕ → Change
-ticked h g = clock_change (word_in h g)
+ticked h g = clock_change (entry_word h g)
 
 -- it may do that, and did
 abbrev pub MayTick : ℕ → ℕ → Hold → Type 0

@@ -1,7 +1,7 @@
 -- The calls of the swap object that were made.
 use Rattle.std.specs.Prelude.{ℕ, ◌≡◌, ◌≤◌, Bool, true, false}
 use Rattle.spur_addr.specs.PageEntry.{is_dirty}
-use Rattle.spur_frames.specs.Clock.{page_in}
+use Rattle.spur_frames.specs.Clock.{page_of_frame}
 use Rattle.spur_swap.specs.Told.{one_call_more}
 use Rattle.spur_pager.specs.View.{View}
 use Rattle.spur_pager.specs.Stand.{entry_in}
@@ -24,4 +24,4 @@ CountsOut page w v = Counts false (is_dirty (entry_in w page)) w v
 
 -- the same of the page of a frame
 abbrev pub CountsFinish : ℕ → View → View → Type 0
-CountsFinish frame w v = CountsOut (page_in w.frames frame) w v
+CountsFinish frame w v = CountsOut (page_of_frame w.frames frame) w v

@@ -1,6 +1,6 @@
 -- The lines of a leaving page are dropped from the caches.
 use Rattle.std.specs.Prelude.{ℕ, ◌≡◌, ◌≢◌, ◌+◌, ◌<◌, ◌&&◌, ◌++◌, true, [], ◌∷◌, length, Some}
-use Rattle.spur_addr.specs.Address.{block_start_of, page_of, table_start}
+use Rattle.spur_addr.specs.Address.{block_start_of, page_of, table_start, page_address, user_pages}
 use Rattle.spur_addr.specs.PageEntry.{is_leaving, is_valid}
 use Rattle.spur_cache.specs.declared.line.Line.{Line}
 use Rattle.spur_flat.specs.declared.flat.Flat.{Flat}
@@ -11,10 +11,10 @@ use Rattle.spur_bus.specs.Logical.{logical_words}
 use Rattle.spur_bus.specs.Calls.{flushed}
 use Rattle.spur_pager.specs.View.{View}
 use Rattle.spur_walk.specs.Tables.{block_address}
-use Rattle.spur_pager.specs.Stand.{CarriesOn, Stands, entry_in, flat_in, page_address, user_pages}
+use Rattle.spur_pager.specs.Stand.{CarriesOn, Stands, entry_in, flat_in}
 use Rattle.spur_pager.specs.Acts.{Flushes, Hold}
-use Rattle.spur_pager.specs.Made.{IsMade}
-use Rattle.spur_pager.specs.Room.{lines_of}
+use Rattle.spur_flat.specs.Formed.{IsMade}
+use Rattle.spur_pager.specs.Room.{page_line_count}
 use Rattle.spur_pager.specs.Runs.{Runs}
 use Rattle.spur_pager.specs.Served.{Keeps, hold_of}
 
@@ -48,7 +48,7 @@ pub record DropsBlock (b holder g : ℕ) (w v : View) : Type 0 where
 -- All lines of a page were flushed: no cache has one now, and the logical memory is as it was.
 pub record FlushesPage (b page : ℕ) (w v : View) : Type 0 where
   pub runs : Runs b (Flushes page ∷ []) w v
-  pub room : v.room + lines_of w.caches page ≡ w.room
+  pub room : v.room + page_line_count w.caches page ≡ w.room
   pub logical : logical_words v.caches v.memory ≡ logical_words w.caches w.memory
-  pub none : lines_of v.caches page ≡ 0
+  pub none : page_line_count v.caches page ≡ 0
   pub unheld : IsUnheld (hold_of v) (page_address page)

@@ -14,8 +14,8 @@ use Rattle.spur_walk.specs.Bounds.{page_steps_left}
 use Rattle.spur_walk.specs.Laws.{IsServing}
 use Rattle.spur_walk.specs.Present.{ArePresent, MayWalk}
 use Rattle.spur_walk.specs.Tables.{HasTablesOf, block_address, logical_flat}
-use Rattle.spur_pager.specs.Past.{Past}
-use Rattle.spur_pager.specs.Made.{IsMade}
+use Rattle.spur_flat.specs.Past.{Past}
+use Rattle.spur_flat.specs.Formed.{IsMade}
 use Rattle.spur_pager.specs.Acts.{Hold, IsFetch, IsWay}
 
 -- cache i had a line of the block with this number

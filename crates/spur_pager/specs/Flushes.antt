@@ -9,7 +9,7 @@ use Rattle.spur_bus.specs.Logical.{logical_words}
 use Rattle.spur_pager.specs.View.{View}
 use Rattle.spur_pager.specs.Stand.{CarriesOn, Stands}
 use Rattle.spur_pager.specs.Acts.{flushed_all, flushes_from, without_page}
-use Rattle.spur_pager.specs.Made.{IsMade}
+use Rattle.spur_flat.specs.Formed.{IsMade}
 use Rattle.spur_pager.specs.Served.{Keeps}
 
 -- the places of a page's lines in cache i, ascending

@@ -1,13 +1,13 @@
 -- Laws of the pager: how much room in the history serving a fault may need.
 use Rattle.std.specs.Prelude.{ℕ, ◌+◌, ◌*◌, ◌≤◌, length}
 use Rattle.spur_flat.specs.declared.access.FaultKind.{FaultKind}
-use Rattle.spur_pager.specs.Room.{entry_room, lines_of, room_for}
+use Rattle.spur_pager.specs.Room.{entry_room, page_line_count, room_for}
 use Rattle.spur_pager.specs.Stand.{IsServable}
 use Rattle.spur_pager.specs.View.{View}
 
 -- a cache has at most 128 lines of a page, one for each block of it
 abbrev pub PageLinesAreFew : Type 0
-PageLinesAreFew = (w : View) (page : ℕ) → IsServable w → lines_of w.caches page ≤ 128 * length w.caches
+PageLinesAreFew = (w : View) (page : ℕ) → IsServable w → page_line_count w.caches page ≤ 128 * length w.caches
 
 -- The clock clears at most as many bits as there are frames. Then one page leaves, goes out, of which all lines are flushed,
 -- and one comes in.

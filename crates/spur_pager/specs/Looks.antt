@@ -5,17 +5,18 @@ use Rattle.spur_frames.specs.Frames.{IsTaken, looked_at, passed}
 use Rattle.spur_frames.specs.Clock.{IsCleared}
 use Rattle.spur_frames.specs.Clock as clock
 use Rattle.spur_pager.specs.View.{View}
-use Rattle.spur_pager.specs.Stand.{entry_in, user_pages}
+use Rattle.spur_pager.specs.Stand.{entry_in}
+use Rattle.spur_addr.specs.Address.{user_pages}
 use Rattle.spur_pager.specs.Acts.{clear_referenced, leave}
 use Rattle.spur_pager.specs.Course.{bits_in, clock_acts, frame_held, turn_of}
-use Rattle.spur_pager.specs.Room.{entry_room, lines_of}
+use Rattle.spur_pager.specs.Room.{entry_room, page_line_count}
 use Rattle.spur_pager.specs.Runs.{Runs}
 
 -- Where its bit is set, the bit is cleared, and where it is clear, the page leaves. The hand passes the frame in both cases.
 pub data IsLooked (b : ℕ) (w v : View) (frame : ℕ) : Bool → Type 0 where
-  Clears : bits_in w (clock.page_in w.frames frame) ≡ true → Runs b (clear_referenced b (clock.page_in w.frames frame) ∷ []) w v → v.frames ≡ passed w.frames
-      → IsCleared (bits_in w) (clock.page_in w.frames frame) (bits_in v) → IsLooked b w v frame false
-  Leaves : bits_in w (clock.page_in w.frames frame) ≡ false → Runs b (leave b (clock.page_in w.frames frame) ∷ []) w v → v.frames ≡ record (passed w.frames) { leaving = Some frame }
+  Clears : bits_in w (clock.page_of_frame w.frames frame) ≡ true → Runs b (clear_referenced b (clock.page_of_frame w.frames frame) ∷ []) w v → v.frames ≡ passed w.frames
+      → IsCleared (bits_in w) (clock.page_of_frame w.frames frame) (bits_in v) → IsLooked b w v frame false
+  Leaves : bits_in w (clock.page_of_frame w.frames frame) ≡ false → Runs b (leave b (clock.page_of_frame w.frames frame) ∷ []) w v → v.frames ≡ record (passed w.frames) { leaving = Some frame }
       → IsLooked b w v frame true
 
 -- the entry of each page that is not valid is as it was
@@ -28,7 +29,7 @@ KeepsDirty w v = (page : ℕ) → page < user_pages → is_dirty (entry_in v pag
 
 -- no page has more lines than it had
 abbrev pub HasNoMoreLines : View → View → Type 0
-HasNoMoreLines w v = (page : ℕ) → page < user_pages → lines_of v.caches page ≤ lines_of w.caches page
+HasNoMoreLines w v = (page : ℕ) → page < user_pages → page_line_count v.caches page ≤ page_line_count w.caches page
 
 pub record Looks (b : ℕ) (w v : View) (leaves : Bool) : Type 0 where
   pub frame : ℕ

@@ -1,12 +1,12 @@
 -- A page goes out of its frame, or comes into one.
 use Rattle.std.specs.Prelude.{ℕ, ◌≡◌, ◌≢◌, ◌+◌, ◌<◌, ◌≤◌, true, false, [], ◌∷◌, length, Some}
-use Rattle.spur_addr.specs.Address.{entry_address_of}
+use Rattle.spur_addr.specs.Address.{entry_address_of, page_address, user_pages}
 use Rattle.spur_addr.specs.PageEntry.{is_dirty, is_on_swap, is_valid, number_of, protection_of, resident_of, swapped_of}
 use Rattle.spur_snoop.specs.Protocol.{is_exclusive}
 use Rattle.spur_bus.specs.Calls.{HasLine}
 use Rattle.spur_frames.specs.Frames.{IsFrame, IsFree, holder_of, release_frame, take_frame}
 use Rattle.spur_pager.specs.View.{View}
-use Rattle.spur_pager.specs.Stand.{entry_in, page_address, user_pages}
+use Rattle.spur_pager.specs.Stand.{entry_in}
 use Rattle.spur_pager.specs.Acts.{Loads, page_in, page_out}
 use Rattle.spur_pager.specs.Room.{entry_room}
 use Rattle.spur_pager.specs.Runs.{Runs}

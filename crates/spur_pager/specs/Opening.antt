@@ -9,7 +9,9 @@ use Rattle.spur_flat.specs.TagLines.{no_tags}
 use Rattle.spur_flat.specs.Validity.{IsValidFlat}
 use Rattle.spur_frames.specs.Frames.{new_frames}
 use Rattle.spur_pager.specs.View.{View}
-use Rattle.spur_pager.specs.Stand.{AreClean, AreFramed, Stands, page_address, standing_flat, standing_state, user_pages}
+use Rattle.spur_pager.specs.Stand.{AreFramed, Stands, standing_flat, standing_state}
+use Rattle.spur_flat.specs.Clean.{AreClean}
+use Rattle.spur_addr.specs.Address.{page_address, user_pages}
 
 -- the state before anything was done, with so many boards, whose caches have so many lines
 abbrev pub opening_state : ℕ → ℕ → Flat → State

@@ -4,22 +4,22 @@ use Rattle.spur_cache.specs.declared.line.Line.{Line}
 use Rattle.spur_flat.specs.declared.access.FaultKind.{FaultKind}
 use Rattle.spur_flat.specs.declared.access.FaultKind.TheVariants as fault
 use Rattle.spur_frames.specs.Frames.{least_free}
-use Rattle.spur_frames.specs.Clock.{page_in}
+use Rattle.spur_frames.specs.Clock.{page_of_frame}
 use Rattle.spur_pager.specs.View.{View}
 use Rattle.spur_pager.specs.Acts.{flushes_from}
-use Rattle.spur_pager.specs.Course.{turn_of, victim_of}
+use Rattle.spur_pager.specs.Course.{turn_of, outgoing_frame}
 
 -- for one change of a page's entry: its entry of the history, and at most four of `advance_entry`
 abbrev pub entry_room : ℕ
 entry_room = 5
 
 -- how many lines of a page there are, in all caches
-abbrev pub lines_of : List (List (Option Line)) → ℕ → ℕ
-lines_of caches page = length (flushes_from 0 0 page caches)
+abbrev pub page_line_count : List (List (Option Line)) → ℕ → ℕ
+page_line_count caches page = length (flushes_from 0 0 page caches)
 
 -- the page that goes out is finished: its lines are flushed, and its entry is changed
 abbrev pub finish_room : View → ℕ
-finish_room w = lines_of w.caches (page_in w.frames (victim_of w)) + entry_room
+finish_room w = page_line_count w.caches (page_of_frame w.frames (outgoing_frame w)) + entry_room
 
 -- before it, where none is leaving, the clock clears bits and has one page leave
 abbrev pub clock_room : View → Option ℕ → ℕ

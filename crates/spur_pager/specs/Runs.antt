@@ -6,7 +6,7 @@ use Rattle.spur_flat.specs.declared.entry.Entry.{Entry}
 use Rattle.spur_pager.specs.View.{View}
 use Rattle.spur_pager.specs.Stand.{CarriesOn, Stands}
 use Rattle.spur_pager.specs.Acts.{Act, IsDone}
-use Rattle.spur_pager.specs.Made.{IsMade}
+use Rattle.spur_flat.specs.Formed.{IsMade}
 use Rattle.spur_pager.specs.Served.{Keeps, hold_of}
 
 -- the acts were done and their entries appended, each of a kind that serving makes; all that stays stays

@@ -13,20 +13,20 @@ use Rattle.spur_flat.specs.Pager.{word_of}
 use Rattle.spur_snoop.specs.Protocol.{is_exclusive}
 use Rattle.spur_bus.specs.Calls.{HasLine, line_count}
 use Rattle.spur_frames.specs.Frames.{least_free}
-use Rattle.spur_frames.specs.Clock.{page_in}
+use Rattle.spur_frames.specs.Clock.{page_of_frame}
 use Rattle.spur_walk.specs.declared.step.Walked.TheVariants as walked
 use Rattle.spur_walk.specs.Laws.{is_served, need_of}
 use Rattle.spur_walk.specs.Plan.{access_plan}
 use Rattle.spur_walk.specs.Steps.{answer_of}
 use Rattle.spur_pager.specs.declared.fault.ServeFault.{ServeFault}
 use Rattle.spur_pager.specs.declared.fault.ServeFault.TheVariants as serve
-use Rattle.spur_pager.specs.Made.{IsMade}
+use Rattle.spur_flat.specs.Formed.{IsMade}
 use Rattle.spur_pager.specs.View.{View}
 use Rattle.spur_pager.specs.Stand.{CarriesOn, Stands, entry_in, flat_in}
 use Rattle.spur_pager.specs.Counts.{Counts}
 use Rattle.spur_pager.specs.Acts.{Hold, IsDone}
-use Rattle.spur_pager.specs.Course.{course_of, gained, slot_in, victim_of}
-use Rattle.spur_pager.specs.Room.{lines_of, room_for}
+use Rattle.spur_pager.specs.Course.{service_of, gained, slot_in, outgoing_frame}
+use Rattle.spur_pager.specs.Room.{page_line_count, room_for}
 
 -- `advance` of board b for the access to the word at `at` answers this fault, as things stand
 pub record HasFault (w : View) (b : ℕ) (kind : FaultKind) (at : ℕ) : Type 0 where
@@ -51,8 +51,8 @@ pub record Does (b : ℕ) (w : View) (kind : FaultKind) (at : ℕ) (answer : Res
   pub used : length (appended w v) ≤ room_for w kind
   pub made : AllByRecursion (IsMade b (length w.caches)) (appended w v)
   pub own : (i : ℕ) → own_entries (appended w v) i ≡ []
-  pub done : IsDone b (course_of b w kind at answer).acts (hold_of w) (appended w v) (hold_of v)
-  pub frames : v.frames ≡ (course_of b w kind at answer).frames
+  pub done : IsDone b (service_of b w kind at answer).acts (hold_of w) (appended w v) (hold_of v)
+  pub frames : v.frames ≡ (service_of b w kind at answer).frames
   pub first : v.frames.first ≡ w.frames.first
   pub count : length v.frames.held ≡ length w.frames.held
 
@@ -80,7 +80,7 @@ IsCarriedOn w v = (rest : Flat) → Stands rest w → CarriesOn rest w v (append
 abbrev pub word_after : ℕ → View → FaultKind → ℕ → ℕ
 word_after b w fault.Reference at = with_bit (entry_in w (page_of at)) 1 true
 word_after b w fault.Dirty at = with_bit (entry_in w (page_of at)) 2 true
-word_after b w fault.Leaving at = swapped_of (slot_in w.frames (victim_of w)) (protection_of (entry_in w (page_of at)))
+word_after b w fault.Leaving at = swapped_of (slot_in w.frames (outgoing_frame w)) (protection_of (entry_in w (page_of at)))
 word_after b w fault.Missing at = resident_of (gained b w) (protection_of (entry_in w (page_of at)))
 word_after b w kind at = entry_in w (page_of at)
 
@@ -94,12 +94,12 @@ pub record IsServed (b : ℕ) (w : View) (kind : FaultKind) (at : ℕ) (v : View
 -- After a fault of the swap on writing, no cache has a line of the page that was to go out. It is still valid, leaving and
 -- dirty, and its frame is the leaving one.
 pub record IsStillLeaving (w v : View) : Type 0 where
-  pub flushed : lines_of v.caches (page_in w.frames (victim_of w)) ≡ 0
-  pub valid : is_valid (entry_in v (page_in w.frames (victim_of w))) ≡ true
-  pub number : number_of (entry_in v (page_in w.frames (victim_of w))) ≡ victim_of w
-  pub leaving : is_leaving (entry_in v (page_in w.frames (victim_of w))) ≡ true
-  pub dirty : is_dirty (entry_in v (page_in w.frames (victim_of w))) ≡ true
-  pub frame : v.frames.leaving ≡ Some (victim_of w)
+  pub flushed : page_line_count v.caches (page_of_frame w.frames (outgoing_frame w)) ≡ 0
+  pub valid : is_valid (entry_in v (page_of_frame w.frames (outgoing_frame w))) ≡ true
+  pub number : number_of (entry_in v (page_of_frame w.frames (outgoing_frame w))) ≡ outgoing_frame w
+  pub leaving : is_leaving (entry_in v (page_of_frame w.frames (outgoing_frame w))) ≡ true
+  pub dirty : is_dirty (entry_in v (page_of_frame w.frames (outgoing_frame w))) ≡ true
+  pub frame : v.frames.leaving ≡ Some (outgoing_frame w)
 
 -- after one on reading the page is on swap as it was, and the frame is free that it was to get
 pub record IsStillOut (b : ℕ) (w : View) (at : ℕ) (v : View) : Type 0 where
@@ -132,7 +132,7 @@ has_read kind answer = false
 
 -- where no frame is free, the page that goes out is written exactly where it is dirty
 abbrev pub writes_to_free : View → Bool
-writes_to_free w = is_none (least_free w.frames) && is_dirty (entry_in w (page_in w.frames (victim_of w)))
+writes_to_free w = is_none (least_free w.frames) && is_dirty (entry_in w (page_of_frame w.frames (outgoing_frame w)))
 
 -- so a frame is made free
 abbrev pub CountsFreeing : View → View → Type 0
@@ -140,7 +140,7 @@ CountsFreeing w v = Counts false (writes_to_free w) w v
 
 -- a page is written once where a dirty one is put out, and else none is
 abbrev pub has_written : View → FaultKind → Bool
-has_written w fault.Leaving = is_dirty (entry_in w (page_in w.frames (victim_of w)))
+has_written w fault.Leaving = is_dirty (entry_in w (page_of_frame w.frames (outgoing_frame w)))
 has_written w fault.Missing = writes_to_free w
 has_written w kind = false
 
@@ -152,7 +152,7 @@ CountsServing w kind answer v = Counts (has_read kind answer) (has_written w kin
 abbrev pub StaysFor : {B : Type 0} → View → FaultKind → B → B → Type 0
 StaysFor w fault.Reference old new = new ≡ old
 StaysFor w fault.Dirty old new = new ≡ old
-StaysFor w fault.Leaving old new = is_dirty (entry_in w (page_in w.frames (victim_of w))) ≡ false → new ≡ old
+StaysFor w fault.Leaving old new = is_dirty (entry_in w (page_of_frame w.frames (outgoing_frame w))) ≡ false → new ≡ old
 StaysFor w kind old new = ⊤
 
 -- after Ok the page is served, and after a fault of the swap it is not

@@ -4,14 +4,14 @@ use Rattle.std.specs.Prelude.{ℕ, ◌≡◌, ◌+◌, ◌*◌, ◌^◌, ◌<◌
 use Rattle.spur_addr.specs.PageEntry.{is_valid, is_dirty, is_leaving, number_of}
 use Rattle.spur_flat.specs.declared.flat.Flat.{Flat}
 use Rattle.spur_flat.specs.declared.entry.Entry.{Entry}
-use Rattle.spur_flat.specs.Pager.{position_in, slot_of, word_of}
+use Rattle.spur_flat.specs.Pager.{position_in, swap_slot_of, word_of}
 use Rattle.spur_addr.specs.Pages.{page_at}
 use Rattle.spur_flat.specs.State.{State, IsCarried}
 use Rattle.spur_flat.specs.Untold.{IsCarriedUntold}
 use Rattle.spur_flat.specs.Validity.{IsDeclared, IsValidFlat}
 use Rattle.spur_bus.specs.Stand.{flat_of, state_of}
 use Rattle.spur_frames.specs.Frames.{Frames, IsFrame, holder_of}
-use Rattle.spur_frames.specs.Clock.{page_in}
+use Rattle.spur_frames.specs.Clock.{page_of_frame}
 use Rattle.spur_walk.specs.Tables.{logical_flat}
 use Rattle.spur_walk.specs.Present.{ArePresent, MayWalk}
 use Rattle.spur_pager.specs.View.{View}
@@ -46,7 +46,7 @@ abbrev pub standing_state : Flat → View → State
 standing_state rest w = state_of (with_told rest w.pages) w.caches w.memory (replicate (length w.caches) [])
 
 -- a taken frame holds a page that is valid with that frame, and its slot
-pub record HoldsPage (F : Flat) (frame page slot : ℕ) : Type 0 where
+pub record FrameHolds (F : Flat) (frame page slot : ℕ) : Type 0 where
   pub small : page < user_pages
   pub declared : IsDeclared F.pages page
   pub slot_is : slot ≡ position_in F.pages page
@@ -58,17 +58,17 @@ pub record HoldsPage (F : Flat) (frame page slot : ℕ) : Type 0 where
 pub record AreFramed (F : Flat) (frames : Frames) : Type 0 where
   pub first : frames.first ≡ 64 + F.tables
   pub count : length frames.held ≡ F.frames
-  pub taken : (frame page slot : ℕ) → IsFrame frames frame → holder_of frames frame ≡ Some (page, slot) → HoldsPage F frame page slot
+  pub taken : (frame page slot : ℕ) → IsFrame frames frame → holder_of frames frame ≡ Some (page, slot) → FrameHolds F frame page slot
   pub holds : (page : ℕ) → page < user_pages → is_valid (word_of F (page_address page)) ≡ true
       → holder_of frames (number_of (word_of F (page_address page))) ≡ Some (page, position_in F.pages page)
-  pub leaving : (frame : ℕ) → frames.leaving ≡ Some frame → is_leaving (word_of F (page_address (page_in frames frame))) ≡ true
+  pub leaving : (frame : ℕ) → frames.leaving ≡ Some frame → is_leaving (word_of F (page_address (page_of_frame frames frame))) ≡ true
   pub leaves : (page : ℕ) → page < user_pages → is_valid (word_of F (page_address page)) ≡ true → is_leaving (word_of F (page_address page)) ≡ true
       → frames.leaving ≡ Some (number_of (word_of F (page_address page)))
 
 -- each valid page that is not dirty has the words of its slot
 abbrev pub AreClean : Flat → Type 0
 AreClean F = (page : ℕ) → page < user_pages → is_valid (word_of F (page_address page)) ≡ true → is_dirty (word_of F (page_address page)) ≡ false
-    → page_at F.words (number_of (word_of F (page_address page))) ≡ page_at F.swap (slot_of F (page_address page))
+    → page_at F.words (number_of (word_of F (page_address page))) ≡ page_at F.swap (swap_slot_of F (page_address page))
 
 -- All of this, with the declared pages of `rest`. That clean pages have the words of their slots is said where the swap
 -- object tells its pages.

@@ -10,7 +10,7 @@ use Rattle.spur_bus.specs.Boards.{line_in}
 use Rattle.spur_bus.specs.Logical.{logical_words}
 use Rattle.spur_bus.specs.Calls.{HasLine, line_count, tags_of}
 use Rattle.spur_walk.specs.Present.{ArePresent, MayWalk}
-use Rattle.spur_walk.specs.Tables.{IsFrame, block_address, logical_flat, user_roots}
+use Rattle.spur_walk.specs.Tables.{IsPageFrame, block_address, logical_flat, user_roots}
 
 -- an entry suits a line of its page
 pub record Suits (e : ℕ) (line : Line) : Type 0 where
@@ -24,7 +24,7 @@ pub record Suits (e : ℕ) (line : Line) : Type 0 where
 pub record MayWrite (F : Flat) (caches : List (List (Option Line))) (g e : ℕ) : Type 0 where
   pub readable : IsTrue (is_readable e)
   pub suits : (i s : ℕ) (line : Line) → line_in caches i s ≡ Some line → block_address line.tag < table_start → page_of (block_address line.tag) ≡ page_of g → Suits e line
-  pub frame : is_valid e ≡ true → IsFrame F (number_of e)
+  pub frame : is_valid e ≡ true → IsPageFrame F (number_of e)
   pub apart : is_valid e ≡ true → (to : ℕ) → to < table_start → page_of to ≢ page_of g → is_valid (word_of F to) ≡ true → number_of (word_of F to) ≢ number_of e
   pub table : is_valid e ≡ true → (r : ℕ) → r < user_roots → is_valid (slice_index F.words r) ≡ true → number_of e ≢ number_of (slice_index F.words r)
 

@@ -1,7 +1,7 @@
-//! What may be changed in the entry of a page.
+//! What may be changed_word in the entry of a page.
 
 ghost use Rattle.std.specs.Prelude.{◌≡◌, ◌<◌, ◌^◌};
-ghost use Rattle.spur_pager.specs.Changes.{changed, entry_for, is_small};
+ghost use Rattle.spur_pager.specs.Changes.{changed_word, entry_for, is_small};
 
 use spur_addr::{GlobalAddr, Pte};
 use spur_flat::Entry;
@@ -24,9 +24,9 @@ pub enum Change {
 }
 
 /// The entry after a change.
-pub(crate) fn changed(entry: Pte, change: Change) -> Pte
+pub(crate) fn changed_word(entry: Pte, change: Change) -> Pte
     requires { is_small change }
-    ensures { result ≡ changed change entry }
+    ensures { result ≡ changed_word change entry }
 {
     match change {
         Change::Referenced => entry.with_referenced(true),

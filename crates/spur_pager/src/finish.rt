@@ -3,12 +3,12 @@
 ghost use Rattle.std.specs.Prelude.{◌≡◌, ◌<◌, ◌≤◌, ◌+◌, None, OnErr, OnOk, IfOk, IsSome, false, Some, length};
 ghost use Rattle.spur_cache.specs.Lens.{OnlyLines, caches};
 ghost use Rattle.spur_addr.specs.PageEntry.{is_dirty};
-ghost use Rattle.spur_frames.specs.Clock.{page_in};
+ghost use Rattle.spur_frames.specs.Clock.{page_of_frame};
 ghost use Rattle.spur_frames.specs.Frames.{least_free};
 ghost use Rattle.spur_pager.specs.Counts.{CountsFinish};
 ghost use Rattle.spur_pager.specs.Served.{CountsFreeing};
 ghost use Rattle.spur_pager.specs.Finish.{FailsToFinish, FailsToFree, Finishes, Frees, HasLeaving};
-ghost use Rattle.spur_pager.specs.Room.{clock_room, entry_room, free_room, lines_of};
+ghost use Rattle.spur_pager.specs.Room.{clock_room, entry_room, free_room, page_line_count};
 ghost use Rattle.spur_pager.specs.Stand.{IsServable, entry_in};
 ghost use Rattle.spur_pager.specs.View.{seen};
 
@@ -32,7 +32,7 @@ pub(crate) fn finish<T: HasCache, B: Backing>(
     requires stands { IsServable (seen B.meaning T.lens boards.old store.old) }
     requires leaving { store.old.frames.leaving ≡ Some frame }
     requires room {
-        lines_of (caches T.lens boards.old) (page_in store.old.frames frame) + entry_room
+        page_line_count (caches T.lens boards.old) (page_of_frame store.old.frames frame) + entry_room
             ≤ store.old.history.room
     }
     ensures finishes {
@@ -45,7 +45,7 @@ pub(crate) fn finish<T: HasCache, B: Backing>(
     }
     ensures unwritten {
         is_dirty (entry_in
-            (seen B.meaning T.lens boards.old store.old) (page_in store.old.frames frame)) ≡ false → store.new.backing
+            (seen B.meaning T.lens boards.old store.old) (page_of_frame store.old.frames frame)) ≡ false → store.new.backing
             ≡ store.old.backing
     }
     ensures counts {

@@ -9,7 +9,7 @@ ghost use Rattle.spur_bus.specs.Calls.{HasLine};
 ghost use Rattle.spur_walk.specs.Tables.{block_address};
 ghost use Rattle.spur_pager.specs.Drops.{DropsBlock, FlushesPage, IsLeavingBlock, IsLeavingPage};
 ghost use Rattle.spur_pager.specs.Flushes.{AreFlushed, IsFlushing};
-ghost use Rattle.spur_pager.specs.Room.{lines_of};
+ghost use Rattle.spur_pager.specs.Room.{page_line_count};
 ghost use Rattle.spur_pager.specs.Stand.{IsServable};
 ghost use Rattle.spur_pager.specs.View.{seen};
 
@@ -31,7 +31,7 @@ pub(crate) fn flush_page<T: HasCache, B: Backing>(
     requires own { b < length boards.old }
     requires stands { IsServable (seen B.meaning T.lens boards.old store.old) }
     requires leaving { IsLeavingPage (seen B.meaning T.lens boards.old store.old) page }
-    requires room { lines_of (caches T.lens boards.old) page ≤ store.old.history.room }
+    requires room { page_line_count (caches T.lens boards.old) page ≤ store.old.history.room }
     ensures flushes {
         FlushesPage b page (seen B.meaning T.lens boards.old store.old)
             (seen B.meaning T.lens boards.new store.new)
@@ -57,7 +57,7 @@ fn flush_cache<T: HasCache, B: Backing>(
     requires holder { holder < length boards.old }
     requires stands { IsServable (seen B.meaning T.lens boards.old store.old) }
     requires leaving { IsLeavingPage (seen B.meaning T.lens boards.old store.old) page }
-    requires room { lines_of (caches T.lens boards.old) page ≤ store.old.history.room }
+    requires room { page_line_count (caches T.lens boards.old) page ≤ store.old.history.room }
     requires before { AreFlushed (caches T.lens boards.old) holder page }
     ensures flushing {
         IsFlushing b page (seen B.meaning T.lens boards.old store.old)

@@ -16,7 +16,7 @@ pub struct History {
 
 impl Model for History {
     ghost use Rattle.std.specs.Prelude.{◌-◌, vec_capacity, vec_len};
-    ghost use Rattle.spur_pager.specs.Past.{Past};
+    ghost use Rattle.spur_flat.specs.Past.{Past};
 
     ghost Value = { Past };
 

@@ -5,7 +5,7 @@ ghost use Rattle.spur_cache.specs.Lens.{OnlyLines};
 ghost use Rattle.spur_addr.specs.Address.{table_start};
 ghost use Rattle.spur_flat.specs.declared.access.FaultKind.TheVariants as kind;
 ghost use Rattle.spur_pager.specs.Acts.{Writes};
-ghost use Rattle.spur_pager.specs.Changes.{changed, entry_for};
+ghost use Rattle.spur_pager.specs.Changes.{changed_word, entry_for};
 ghost use Rattle.spur_pager.specs.Marks.{IsMarked, MayMark};
 ghost use Rattle.spur_pager.specs.Room.{entry_room};
 ghost use Rattle.spur_pager.specs.Runs.{Runs};
@@ -33,7 +33,7 @@ pub(crate) fn mark<T: HasCache, B: Backing>(
     requires may { MayMark (seen B.meaning T.lens boards.old store.old) b page change }
     requires room { entry_room ≤ store.old.history.room }
     ensures runs {
-        Runs b (Writes page (entry_for change b page) (changed change) ∷ [])
+        Runs b (Writes page (entry_for change b page) (changed_word change) ∷ [])
             (seen B.meaning T.lens boards.old store.old)
             (seen B.meaning T.lens boards.new store.new)
     }

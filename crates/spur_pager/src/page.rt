@@ -1,8 +1,7 @@
 //! Pages by their numbers.
 
 ghost use Rattle.std.specs.Prelude.{◌≡◌, ◌<◌, ◌^◌};
-ghost use Rattle.spur_addr.specs.Address.{page_of};
-ghost use Rattle.spur_pager.specs.Stand.{page_address};
+ghost use Rattle.spur_addr.specs.Address.{page_of, page_address};
 
 use spur_addr::GlobalAddr;
 

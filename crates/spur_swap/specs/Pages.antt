@@ -2,8 +2,8 @@
 use Rattle.std.specs.Prelude.{ℕ, ◌≡◌, ◌*◌, ◌/◌, ◌%◌, List, length, replicate}
 
 -- whole pages
-abbrev pub ArePages : List ℕ → Type 0
-ArePages words = length words % 1024 ≡ 0
+abbrev pub AreWholePages : List ℕ → Type 0
+AreWholePages words = length words % 1024 ≡ 0
 
 -- how many slots there are
 abbrev pub slots_of : List ℕ → ℕ

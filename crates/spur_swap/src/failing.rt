@@ -22,13 +22,13 @@ pub struct SwapTest {
 
 impl Model for SwapTest {
     ghost use Rattle.spur_swap.specs.Kept.{Tried};
-    ghost use Rattle.spur_swap.specs.Pages.{ArePages};
+    ghost use Rattle.spur_swap.specs.Pages.{AreWholePages};
 
     ghost Value = { Tried };
 
     ghost view = { λ s. record { words = s.pages; reads = s.reads; writes = s.writes } };
 
-    ghost invariant = { λ s. ArePages s.pages };
+    ghost invariant = { λ s. AreWholePages s.pages };
 }
 
 impl SwapTest {

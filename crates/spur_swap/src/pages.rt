@@ -2,7 +2,7 @@
 ghost use Rattle.std.specs.Prelude.{◌≡◌, ◌+◌, ◌<◌, ◌≤◌, OnErr, OnOk, [], length};
 ghost use Rattle.spur_addr.specs.Pages.{page_at, with_page};
 ghost use Rattle.spur_list.specs.Parts.{with_part};
-ghost use Rattle.spur_swap.specs.Pages.{ArePages, slots_of, zero_pages};
+ghost use Rattle.spur_swap.specs.Pages.{AreWholePages, slots_of, zero_pages};
 
 use spur_addr::PAGE_WORDS;
 use std::alloc::{AllocError, Global};
@@ -22,7 +22,7 @@ impl Model for Pages {
 
     ghost view = { λ a. a.words.items };
 
-    ghost invariant = { λ a. ArePages a.words.items };
+    ghost invariant = { λ a. AreWholePages a.words.items };
 }
 
 impl Pages {
@@ -39,7 +39,7 @@ impl Pages {
     pub(crate) fn prepare(&mut self, slots: u32) -> Result<(), AllocError>
         ensures zeros { OnOk result (self.new ≡ zero_pages slots) }
         ensures stay { OnErr result (self.new ≡ self.old) }
-        ensures whole { ArePages self.new }
+        ensures whole { AreWholePages self.new }
     {
         self.words.resize(slots as usize * PAGE_WORDS, 0)?;
         self.words.fill(0);
@@ -50,7 +50,7 @@ impl Pages {
     pub(crate) fn read(&self, slot: u32, into: &mut [u32; 1024])
         requires { slot < slots_of self.now }
         ensures page { into.new ≡ page_at self.now slot }
-        ensures whole { ArePages self.now }
+        ensures whole { AreWholePages self.now }
     {
         let at = slot as usize * PAGE_WORDS;
         into.copy_from_slice(&self.words[at..at + PAGE_WORDS]);
@@ -61,7 +61,7 @@ impl Pages {
         requires { slot < slots_of self.old }
         ensures page { self.new ≡ with_page self.old slot from.now }
         ensures long { length self.new ≡ length self.old }
-        ensures whole { ArePages self.new }
+        ensures whole { AreWholePages self.new }
     {
         put(&mut self.words, slot as usize * PAGE_WORDS, from);
     }

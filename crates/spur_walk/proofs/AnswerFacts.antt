@@ -23,7 +23,7 @@ use Rattle.spur_flat.specs.Access.{allows, grants, is_align, is_write, may, may_
 use Rattle.spur_flat.specs.Pager.{or_zero, word_of}
 use Rattle.spur_flat.specs.Table.{data_word, place_in, walk_of}
 use Rattle.spur_flat.specs.TagLines as T
-use Rattle.spur_flat.specs.TagRules.{access_of, held, is_read, load_refusal, state_number, tags_refusal, write_refusal}
+use Rattle.spur_flat.specs.TagRules.{access_of, tag_condition, is_read, load_refusal, state_number, tags_refusal, write_refusal}
 use Rattle.spur_bus.specs.declared.place.Place.{Place}
 use Rattle.spur_bus.specs.Boards.{line_of_block}
 use Rattle.spur_bus.specs.Logical.{logical_words}
@@ -495,7 +495,7 @@ pub record Done (caches : List (List (Option Line))) (memory : List ℕ) (b at :
   pub allowed : may_aligned (walk_of (logical_flat caches memory) at) kind None ≡ true
   pub tagged : (F : Flat) (word value : ℕ) → tags_refusal F (tags_of caches) (done_entry kind b at word value) ≡ None
 
-two_held : (a c : Bool) (m n x y : ℕ) → a ≡ true → c ≡ true → held a m x (held c n y None) ≡ None
+two_held : (a c : Bool) (m n x y : ℕ) → a ≡ true → c ≡ true → tag_condition a m x (tag_condition c n y None) ≡ None
 two_held true true m n x y ha hc = refl
 two_held true false m n x y ha hc = cc
 two_held false c m n x y ha hc = cc
@@ -521,7 +521,7 @@ done_as caches memory b at access.Load line standing is (Reads granted) =
           ∙ read_done (is_dirty e);
       tagged = λ (G : Flat) (word value : ℕ).
           ap load_refusal (tags_in caches b at line standing.own is)
-          ∙ ap (λ (x : Bool). held x 1 (state_number line.state) None) (alive line.state (found_held (get_or caches b []) at line (own_cache caches b standing.walk.agree standing.own) is).valid);
+          ∙ ap (λ (x : Bool). tag_condition x 1 (state_number line.state) None) (alive line.state (found_held (get_or caches b []) at line (own_cache caches b standing.walk.agree standing.own) is).valid);
     }
 done_as caches memory b at access.Store line standing is (Writes granted dirty exclusive) =
     let F : Flat = logical_flat caches memory in

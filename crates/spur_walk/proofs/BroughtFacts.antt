@@ -6,7 +6,7 @@ use Rattle.std.proofs.lemmas.Option.{slice_get-get_or}
 use Rattle.spur_addr.specs.Address.{block_of, block_start_of, entry_address_of, root_start, table_start}
 use Rattle.spur_addr.specs.PageEntry.{is_dirty, is_leaving, is_referenced, is_valid}
 use Rattle.spur_cache.specs.declared.line.Line.{Line}
-use Rattle.spur_cache.specs.Lines.{changed_found, dirtied, line_at, slot_of, with_line}
+use Rattle.spur_cache.specs.Lines.{changed_found, dirtied, line_at, index_of, with_line}
 use Rattle.spur_snoop.specs.declared.BlockState.{BlockState}
 use Rattle.spur_snoop.specs.declared.BlockState.TheVariants.{UnOwned, OwnedExclusive}
 use Rattle.spur_snoop.specs.declared.BusKind.{BusKind}
@@ -46,7 +46,7 @@ had caches i s l there = record { old = l; there = there; tag = refl }
 -- a line after a transaction: the new one at its place, or one of a block that had a line there
 record IsNew (caches : List (List (Option Line))) (own : ℕ) (fresh : Line) (i s : ℕ) (l : Line) : Type 0 where
   board : i ≡ own
-  slot : s ≡ slot_of (get_or caches own []) fresh.tag
+  slot : s ≡ index_of (get_or caches own []) fresh.tag
   line : l ≡ fresh
 
 line_after : (caches : List (List (Option Line))) (own g : ℕ) (kind : BusKind) (fresh : Line) (s : ℕ) → own < length caches → line_in (turned caches own g kind fresh) own s ≡ line_at (with_line (get_or caches own []) fresh) s
@@ -62,7 +62,7 @@ turned_in : (caches : List (List (Option Line))) (own g : ℕ) (kind : BusKind) 
     → From caches own (block_of g) kind fresh i s l → IsNew caches own fresh i s l ⊎ HadBlock caches i s l
 turned_in caches own g kind fresh i s l within h (Fresh e is) =
     let lines : List (Option Line) = get_or caches own [] in
-    let slot : ℕ = slot_of lines fresh.tag in
+    let slot : ℕ = index_of lines fresh.tag in
     let mine : line_at (slice_set lines slot (Some fresh)) s ≡ Some l = sym (line_after caches own g kind fresh s within) ∙ ap (λ (n : ℕ). line_in (turned caches own g kind fresh) n s) (sym e) ∙ h in
     ⊎_elim
     (λ (f : s ≡ slot). inl (record { board = e; slot = f; line = is }))
@@ -86,7 +86,7 @@ restated_had caches b g kind state (Some line) i s l agree within is h =
     ⊎_elim
     (λ (new : IsNew caches b (record line { state = state }) i s l).
     let there : line_in caches i s ≡ Some line =
-    ap (λ (n : ℕ). line_in caches n s) new.board ∙ ap (line_in caches b) (new.slot ∙ ap (slot_of own) here.tag ∙ sym here.slot_is) ∙ here.there in
+    ap (λ (n : ℕ). line_in caches n s) new.board ∙ ap (line_in caches b) (new.slot ∙ ap (index_of own) here.tag ∙ sym here.slot_is) ∙ here.there in
     record { old = line; there = there; tag = ap (λ (m : Line). m.tag) (sym new.line) })
     (λ (was : HadBlock caches i s l). was)
     (turned_had caches b g kind (record line { state = state }) i s l agree within here.tag h)
@@ -100,11 +100,11 @@ put_had caches b slot line i s l there (Here e f is) = record {
 }
 put_had caches b slot line i s l there (There stood away) = had caches i s l stood
 
-dirtied_had : (caches : List (List (Option Line))) (b g : ℕ) (o : Option Line) (i s : ℕ) (l : Line) → b < length caches → line_of_block caches b g ≡ o → line_in (slice_set caches b (changed_found (get_or caches b []) (slot_of (get_or caches b []) (block_of g)) dirtied o)) i s ≡ Some l → HadBlock caches i s l
+dirtied_had : (caches : List (List (Option Line))) (b g : ℕ) (o : Option Line) (i s : ℕ) (l : Line) → b < length caches → line_of_block caches b g ≡ o → line_in (slice_set caches b (changed_found (get_or caches b []) (index_of (get_or caches b []) (block_of g)) dirtied o)) i s ≡ Some l → HadBlock caches i s l
 dirtied_had caches b g None i s l within is h = had caches i s l (ap (λ (cs : List (List (Option Line))). line_in cs i s) (sym (L.set-get_or caches b [])) ∙ h)
 dirtied_had caches b g (Some line) i s l within is h =
     let here = is_here caches b g line within is in
-    let slot : ℕ = slot_of (get_or caches b []) (block_of g) in
+    let slot : ℕ = index_of (get_or caches b []) (block_of g) in
     put_had caches b slot line i s l (ap (line_in caches b) (sym here.slot_is) ∙ here.there) (put_from caches b slot (dirtied line) i s l within h)
 
 -- a block that is filled

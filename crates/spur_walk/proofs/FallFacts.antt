@@ -6,7 +6,7 @@ use Rattle.std.proofs.lemmas.List.{length-set}
 use Rattle.spur_addr.specs.Address.{block_of, entry_address_of}
 use Rattle.spur_addr.specs.PageEntry.{is_valid, is_dirty, is_leaving}
 use Rattle.spur_cache.specs.declared.line.Line.{Line}
-use Rattle.spur_cache.specs.Lines.{IsCache, dirtied, found, line_at, not_tagged, slot_of, standing, tagged, victim_of, with_dirty, with_line}
+use Rattle.spur_cache.specs.Lines.{IsCache, dirtied, found, line_at, not_tagged, index_of, occupant, tagged, victim_of, with_dirty, with_line}
 use Rattle.spur_cache.proofs.CacheFacts.{changed_is, found_tag, tagged_there}
 use Rattle.spur_snoop.specs.declared.BlockState.{BlockState}
 use Rattle.spur_snoop.specs.declared.BlockState.TheVariants.{UnOwned, OwnedExclusive}
@@ -45,11 +45,11 @@ use Rattle.spur_walk.proofs.PlanFacts.{Answers, Cleans, Shares, answers_as, fill
 use Rattle.spur_walk.proofs.ServeFacts.{found_same, hits, or_false, own-turned}
 
 -- a line put in its place, and the blocks of others
-away_in : (own : List (Option Line)) (fresh : Line) (h : ℕ) → slot_of own (block_of h) ≢ slot_of own fresh.tag → found (with_line own fresh) h ≡ found own h
+away_in : (own : List (Option Line)) (fresh : Line) (h : ℕ) → index_of own (block_of h) ≢ index_of own fresh.tag → found (with_line own fresh) h ≡ found own h
 away_in own fresh h apart =
-    let size : length (with_line own fresh) ≡ length own = length-set own (slot_of own fresh.tag) (Some fresh) in
+    let size : length (with_line own fresh) ≡ length own = length-set own (index_of own fresh.tag) (Some fresh) in
     ap (λ (n : ℕ). tagged (block_of h) (line_at (with_line own fresh) (block_of h % n))) size
-    ∙ ap (tagged (block_of h)) (set_away own (slot_of own fresh.tag) (slot_of own (block_of h)) (Some fresh) apart)
+    ∙ ap (tagged (block_of h)) (set_away own (index_of own fresh.tag) (index_of own (block_of h)) (Some fresh) apart)
 
 not_tag : (block : ℕ) (line : Line) → line.tag ≢ block → tagged block (Some line) ≡ None
 not_tag block line apart = ap (λ (b : Bool). if b then Some line else None) (ne_eqb line.tag block apart)
@@ -57,21 +57,21 @@ not_tag block line apart = ap (λ (b : Bool). if b then Some line else None) (ne
 -- an owned victim goes back to memory: what is found is found, and what is not is not
 pub record Backs (own : List (Option Line)) (g : ℕ) (line : Line) : Type 0 where
   pub cache : IsCache own
-  pub stands : standing own g ≡ Some line
+  pub stands : occupant own g ≡ Some line
   pub other : line.tag ≢ block_of g
 
 abbrev backed : List (Option Line) → Line → List (Option Line)
 backed own line = with_line own (record line { state = UnOwned })
 
-stands_own : (own : List (Option Line)) (g : ℕ) (line : Line) → Backs own g line → line_at own (slot_of own line.tag) ≡ Some line
-stands_own own g line b = ap (line_at own) (b.cache.placed (slot_of own (block_of g)) line b.stands) ∙ b.stands
+stands_own : (own : List (Option Line)) (g : ℕ) (line : Line) → Backs own g line → line_at own (index_of own line.tag) ≡ Some line
+stands_own own g line b = ap (line_at own) (b.cache.placed (index_of own (block_of g)) line b.stands) ∙ b.stands
 
-backed_there : (own : List (Option Line)) (g h : ℕ) (line : Line) → Backs own g line → slot_of own (block_of h) ≡ slot_of own line.tag → line_at (backed own line) (slot_of (backed own line) (block_of h)) ≡ Some (record line { state = UnOwned })
+backed_there : (own : List (Option Line)) (g h : ℕ) (line : Line) → Backs own g line → index_of own (block_of h) ≡ index_of own line.tag → line_at (backed own line) (index_of (backed own line) (block_of h)) ≡ Some (record line { state = UnOwned })
 backed_there own g h line b same =
     let fresh : Line = record line { state = UnOwned } in
-    let size : length (backed own line) ≡ length own = length-set own (slot_of own line.tag) (Some fresh) in
+    let size : length (backed own line) ≡ length own = length-set own (index_of own line.tag) (Some fresh) in
     ap (λ (n : ℕ). line_at (backed own line) (block_of h % n)) size ∙ ap (line_at (backed own line)) same
-    ∙ set_there own (slot_of own line.tag) (Some fresh) (within own (slot_of own line.tag) line (stands_own own g line b))
+    ∙ set_there own (index_of own line.tag) (Some fresh) (within own (index_of own line.tag) line (stands_own own g line b))
   where
     within : (lines : List (Option Line)) (slot : ℕ) (l : Line) → line_at lines slot ≡ Some l → slot < length lines
     within [] slot l h = cc
@@ -81,15 +81,15 @@ backed_there own g h line b same =
 backed_other : (own : List (Option Line)) (g h : ℕ) (line : Line) → Backs own g line → line.tag ≢ block_of h → found (backed own line) h ≡ found own h
 backed_other own g h line b apart =
     ⊎_elim
-    (λ (same : slot_of own (block_of h) ≡ slot_of own line.tag).
+    (λ (same : index_of own (block_of h) ≡ index_of own line.tag).
     ap (tagged (block_of h)) (backed_there own g h line b same) ∙ not_tag (block_of h) (record line { state = UnOwned }) apart
     ∙ sym (ap (tagged (block_of h)) (ap (line_at own) same ∙ stands_own own g line b) ∙ not_tag (block_of h) line apart))
-    (λ (away : slot_of own (block_of h) ≢ slot_of own line.tag). away_in own (record line { state = UnOwned }) h away)
-    (cases_eq (slot_of own (block_of h)) (slot_of own line.tag))
+    (λ (away : index_of own (block_of h) ≢ index_of own line.tag). away_in own (record line { state = UnOwned }) h away)
+    (cases_eq (index_of own (block_of h)) (index_of own line.tag))
 
 found_here : (own : List (Option Line)) (g h : ℕ) (line : Line) → Backs own g line → line.tag ≡ block_of h → found own h ≡ Some line
 found_here own g h line b same =
-    ap (tagged (block_of h)) (ap (line_at own) (ap (slot_of own) (sym same)) ∙ stands_own own g line b) ∙ tagged_there (block_of h) line same
+    ap (tagged (block_of h)) (ap (line_at own) (ap (index_of own) (sym same)) ∙ stands_own own g line b) ∙ tagged_there (block_of h) line same
 
 pub backed_none : (own : List (Option Line)) (g h : ℕ) (line : Line) → Backs own g line → found own h ≡ None → found (backed own line) h ≡ None
 backed_none own g h line b none =
@@ -116,7 +116,7 @@ backed_some own g h line x b is =
 pub backed_backs : (own : List (Option Line)) (g : ℕ) (line : Line) → Backs own g line → backs (victim_of (backed own line) g) ≡ 0
 backed_backs own g line b =
     let fresh : Line = record line { state = UnOwned } in
-    let slot : slot_of own (block_of g) ≡ slot_of own line.tag = sym (b.cache.placed (slot_of own (block_of g)) line b.stands) in
+    let slot : index_of own (block_of g) ≡ index_of own line.tag = sym (b.cache.placed (index_of own (block_of g)) line b.stands) in
     ap (λ (o : Option Line). backs (not_tagged (block_of g) o)) (backed_there own g g line b slot)
     ∙ ap (λ (x : Bool). backs (if x then None else Some fresh)) (ne_eqb line.tag (block_of g) b.other)
 
@@ -242,7 +242,7 @@ over_falls words own at g need l n place s f (Some line) cache is back fill =
     let v = victim_is own g line is in
     choose (is_owned line.state) refl (record { cache = cache; stands = v.stands; other = v.other }) v.stands
   where
-    choose : (x : Bool) → is_owned line.state ≡ x → Backs own g line → standing own g ≡ Some line → Falls words own at need (s + (if x then 1 else 0)) f (if x then plan.WriteBack (block_address line.tag) else plan.Fill l n g place)
+    choose : (x : Bool) → is_owned line.state ≡ x → Backs own g line → occupant own g ≡ Some line → Falls words own at need (s + (if x then 1 else 0)) f (if x then plan.WriteBack (block_address line.tag) else plan.Fill l n g place)
     choose true owned b stands =
         subst (λ (o : Option Line). Less (s + 1) f (restate_own own UnOwned o) at need false) (sym (victim_found own g line cache stands))
         (subst (λ (m : ℕ). Less m f (backed own line) at need false) (sym (plus_one s)) (back line b))
@@ -428,7 +428,7 @@ page_over words own page g l n place s (Some line) cache is back fill =
     let v = victim_is own g line is in
     choose (is_owned line.state) (record { cache = cache; stands = v.stands; other = v.other }) v.stands
   where
-    choose : (x : Bool) → Backs own g line → standing own g ≡ Some line → PageFalls words own page (s + (if x then 1 else 0)) (if x then plan.WriteBack (block_address line.tag) else plan.Fill l n g place)
+    choose : (x : Bool) → Backs own g line → occupant own g ≡ Some line → PageFalls words own page (s + (if x then 1 else 0)) (if x then plan.WriteBack (block_address line.tag) else plan.Fill l n g place)
     choose true b stands =
         subst (λ (o : Option Line). page_steps_left (restate_own own UnOwned o) page < s + 1) (sym (victim_found own g line cache stands))
         (subst (λ (m : ℕ). page_steps_left (backed own line) page < m) (sym (plus_one s)) (back line b))

@@ -19,7 +19,7 @@ use Rattle.spur_flat.specs.Blocks.{entry_block, is_layer, layer_from, layer_of, 
 use Rattle.spur_flat.specs.Pager.{word_of}
 use Rattle.spur_flat.specs.TagLines.{filled_state}
 use Rattle.spur_flat.specs.TagLines as T
-use Rattle.spur_flat.specs.TagRules.{access_of, held, is_read, may_fill, state_number, table_refusal}
+use Rattle.spur_flat.specs.TagRules.{access_of, tag_condition, is_read, may_fill, state_number, table_refusal}
 use Rattle.spur_bus.specs.declared.place.Place.{Place}
 use Rattle.spur_bus.specs.Calls.{Gives, read_line, tags_of}
 use Rattle.spur_bus.proofs.CallFacts.{tags_in}
@@ -155,13 +155,13 @@ pub above_start : (g : ℕ) → entry_block (block_start_of g) ≡ block_of (ent
 above_start g = ap (λ (n : ℕ). (255 * 2 ^ 30 + 4 * n) / 2 ^ 5) (page_start g)
 
 pub above_state : (caches : List (List (Option Line))) (memory : List ℕ) (b g : ℕ) → MayWalk caches memory → b < length caches → HasBlock caches b (entry_address_of g)
-    → is_alive (T.state_of (T.tag_at (tags_of caches) b (entry_block (block_start_of g)))) ≡ true
+    → is_alive (T.block_state (T.tag_at (tags_of caches) b (entry_block (block_start_of g)))) ≡ true
 above_state caches memory b g may within above =
-    ap (λ (n : ℕ). is_alive (T.state_of (T.tag_at (tags_of caches) b n))) (above_start g)
-    ∙ ap (λ (t : Option Tag). is_alive (T.state_of t)) (tags_in caches b (entry_address_of g) above.line within above.there)
+    ap (λ (n : ℕ). is_alive (T.block_state (T.tag_at (tags_of caches) b n))) (above_start g)
+    ∙ ap (λ (t : Option Tag). is_alive (T.block_state t)) (tags_in caches b (entry_address_of g) above.line within above.there)
     ∙ alive above.line.state (found_held (get_or caches b []) (entry_address_of g) above.line (own_cache caches b may.agree within) above.there).valid
 
-two_held : (a c : Bool) (m n x y : ℕ) → a ≡ true → c ≡ true → held a m x (held c n y None) ≡ None
+two_held : (a c : Bool) (m n x y : ℕ) → a ≡ true → c ≡ true → tag_condition a m x (tag_condition c n y None) ≡ None
 two_held true true m n x y ha hc = refl
 two_held true false m n x y ha hc = cc
 two_held false c m n x y ha hc = cc
@@ -177,15 +177,15 @@ same_root : (F L : Flat) (g : ℕ) → HasTablesOf F L.words → slice_index F.w
 same_root F L g has = ap (slice_index F.words) (root_word_start g) ∙ has.root (root_word_of g) (root_index_small g)
 
 pub fills_tables : (F L : Flat) (caches : List (List (Option Line))) (memory : List ℕ) (b : ℕ) (l : Layer) (n : Need) (g : ℕ) (place : Place) → MayWalk caches memory → b < length caches → HasTablesOf F L.words → IsFilled L caches b l n g place
-    → table_refusal F l n (block_start_of g) (T.state_of (T.tag_at (tags_of caches) b (entry_block (block_start_of g)))) ≡ None
+    → table_refusal F l n (block_start_of g) (T.block_state (T.tag_at (tags_of caches) b (entry_block (block_start_of g)))) ≡ None
 fills_tables F L caches memory b UserBlock n g place may within has (OfPage m k p low above lets is) =
-    two_held (is_alive (T.state_of (T.tag_at (tags_of caches) b (entry_block (block_start_of g))))) (may_fill (word_of F (block_start_of g)) n) 8 10
-    (state_number (T.state_of (T.tag_at (tags_of caches) b (entry_block (block_start_of g))))) (word_of F (block_start_of g))
+    two_held (is_alive (T.block_state (T.tag_at (tags_of caches) b (entry_block (block_start_of g))))) (may_fill (word_of F (block_start_of g)) n) 8 10
+    (state_number (T.block_state (T.tag_at (tags_of caches) b (entry_block (block_start_of g))))) (word_of F (block_start_of g))
     (above_state caches memory b g may within above)
     (ap (λ (w : ℕ). may_fill w n) (same_start F L g has low) ∙ lets)
 fills_tables F L caches memory b PteBlock n g place may within has (OfTable m k p from to above valid is) =
-    two_held (is_alive (T.state_of (T.tag_at (tags_of caches) b (entry_block (block_start_of g))))) (is_valid (slice_index F.words (root_word_of (block_start_of g)))) 9 11
-    (state_number (T.state_of (T.tag_at (tags_of caches) b (entry_block (block_start_of g))))) (slice_index F.words (root_word_of (block_start_of g)))
+    two_held (is_alive (T.block_state (T.tag_at (tags_of caches) b (entry_block (block_start_of g))))) (is_valid (slice_index F.words (root_word_of (block_start_of g)))) 9 11
+    (state_number (T.block_state (T.tag_at (tags_of caches) b (entry_block (block_start_of g))))) (slice_index F.words (root_word_of (block_start_of g)))
     (above_state caches memory b g may within above)
     (ap (λ (w : ℕ). is_valid w) (same_root F L g has) ∙ valid)
 fills_tables F L caches memory b RootBlock Read g place may within has (OfRoot k p from to is) = refl

@@ -3,7 +3,7 @@ use Rattle.std.proofs.Common.{◌≡◌, ◌∙◌, ℕ, ◌+◌, ◌*◌, ◌/�
 use Rattle.spur_addr.specs.Address.{block_of, page_of, table_start, root_start}
 use Rattle.spur_addr.specs.PageEntry.{is_valid, number_of}
 use Rattle.spur_cache.specs.declared.line.Line.{Line}
-use Rattle.spur_cache.specs.Lines.{standing}
+use Rattle.spur_cache.specs.Lines.{occupant}
 use Rattle.spur_snoop.specs.Protocol.{is_owned}
 use Rattle.spur_flat.specs.declared.flat.Flat.{Flat}
 use Rattle.spur_flat.specs.Blocks.{root_word_of, wired_frame}
@@ -92,7 +92,7 @@ room F a f ok (OfRoot la ha na) =
 
 -- a block that is not there, on whose place no owned line stands, and that stands in a frame, may be read from it
 pub may_read : (caches : List (List (Option Line))) (memory : List ℕ) (b g frame : ℕ) → MayWalk caches memory → line_of_block caches b g ≡ None
-    → ((line : Line) → standing (get_or caches b []) g ≡ Some line → is_owned line.state ≡ false) → StandsIn (logical_flat caches memory) (block_of g) frame → MayRead caches memory b g frame
+    → ((line : Line) → occupant (get_or caches b []) g ≡ Some line → is_owned line.state ≡ false) → StandsIn (logical_flat caches memory) (block_of g) frame → MayRead caches memory b g frame
 may_read caches memory b g frame may none victim stands =
     let F : Flat = logical_flat caches memory in
     record {

@@ -5,7 +5,7 @@ use Rattle.std.proofs.lemmas.Option.{slice_get-get_or}
 use Rattle.spur_addr.specs.Address.{block_of, entry_address_of, root_index_of, table_start, root_start}
 use Rattle.spur_addr.specs.PageEntry.{is_valid, is_referenced, is_dirty, is_on_swap, is_leaving}
 use Rattle.spur_cache.specs.declared.line.Line.{Line}
-use Rattle.spur_cache.specs.Lines.{IsCache, found, not_tagged, slot_of, standing, tagged, victim_of}
+use Rattle.spur_cache.specs.Lines.{IsCache, found, not_tagged, index_of, occupant, tagged, victim_of}
 use Rattle.spur_cache.proofs.CacheFacts.{found_held}
 use Rattle.spur_cache.proofs.LawFacts.{found_where_it_stands}
 use Rattle.spur_snoop.specs.declared.BlockState.{BlockState}
@@ -40,14 +40,14 @@ some_line a b h = cc
 
 -- the line of another block that stands on a block's place
 pub record IsVictim (own : List (Option Line)) (g : ℕ) (line : Line) : Type 0 where
-  pub stands : standing own g ≡ Some line
+  pub stands : occupant own g ≡ Some line
   pub other : line.tag ≢ block_of g
 
 victim_if : (b : Bool) (a line : Line) → (if b then None else Some a) ≡ Some line → (b ≡ false) × (a ≡ line)
 victim_if true a line h = cc
 victim_if false a line h = (refl, some_line a line h)
 
-victim_in : (own : List (Option Line)) (g : ℕ) (line : Line) (o : Option Line) → standing own g ≡ o → not_tagged (block_of g) o ≡ Some line → IsVictim own g line
+victim_in : (own : List (Option Line)) (g : ℕ) (line : Line) (o : Option Line) → occupant own g ≡ o → not_tagged (block_of g) o ≡ Some line → IsVictim own g line
 victim_in own g line None is h = cc
 victim_in own g line (Some a) is h =
     let both = victim_if (a.tag == block_of g) a line h in
@@ -59,38 +59,38 @@ victim_in own g line (Some a) is h =
     }
 
 pub victim_is : (own : List (Option Line)) (g : ℕ) (line : Line) → victim_of own g ≡ Some line → IsVictim own g line
-victim_is own g line h = victim_in own g line (standing own g) refl h
+victim_is own g line h = victim_in own g line (occupant own g) refl h
 
 -- where the block is not found, what stands on its place is a victim
-victim_there : (own : List (Option Line)) (g : ℕ) (line : Line) (b : Bool) → standing own g ≡ Some line → found own g ≡ None → (line.tag == block_of g) ≡ b → victim_of own g ≡ Some line
+victim_there : (own : List (Option Line)) (g : ℕ) (line : Line) (b : Bool) → occupant own g ≡ Some line → found own g ≡ None → (line.tag == block_of g) ≡ b → victim_of own g ≡ Some line
 victim_there own g line true is none test =
     let seen : found own g ≡ Some line = ap (tagged (block_of g)) is ∙ ap (λ (t : Bool). if t then Some line else None) test in
     let clash : None ≡ Some line = sym none ∙ seen in
     cc
 victim_there own g line false is none test = ap (not_tagged (block_of g)) is ∙ ap (λ (t : Bool). if t then None else Some line) test
 
-pub victim_here : (own : List (Option Line)) (g : ℕ) (line : Line) → standing own g ≡ Some line → found own g ≡ None → victim_of own g ≡ Some line
+pub victim_here : (own : List (Option Line)) (g : ℕ) (line : Line) → occupant own g ≡ Some line → found own g ≡ None → victim_of own g ≡ Some line
 victim_here own g line is none = victim_there own g line (line.tag == block_of g) is none refl
 
 pub block_again : (block : ℕ) → block_of (block_address block) ≡ block
 block_again block = let r : block * 2 ^ 5 / 2 ^ 5 ≡ block = omega arith in r
 
 -- what stands on a place is found by its own block
-pub victim_found : (own : List (Option Line)) (g : ℕ) (line : Line) → IsCache own → standing own g ≡ Some line → found own (block_address line.tag) ≡ Some line
-victim_found own g line cache stands = found_where_it_stands own (block_address line.tag) (slot_of own (block_of g)) line cache stands (sym (block_again line.tag))
+pub victim_found : (own : List (Option Line)) (g : ℕ) (line : Line) → IsCache own → occupant own g ≡ Some line → found own (block_address line.tag) ≡ Some line
+victim_found own g line cache stands = found_where_it_stands own (block_address line.tag) (index_of own (block_of g)) line cache stands (sym (block_again line.tag))
 
 pub victim_small : (own : List (Option Line)) (g : ℕ) (line : Line) → IsCache own → victim_of own g ≡ Some line → line.tag < 2 ^ 33
-victim_small own g line cache h = let v = victim_is own g line h in (cache.held (slot_of own (block_of g)) line v.stands).tag
+victim_small own g line cache h = let v = victim_is own g line h in (cache.held (index_of own (block_of g)) line v.stands).tag
 
 -- an owned victim is written back, or the block is filled
 fill_if : (F : Flat) (caches : List (List (Option Line))) (b g at : ℕ) (l : Layer) (n : Need) (place : Place) (line : Line) (owned : Bool) → IsCache (get_or caches b []) → line_of_block caches b at ≡ None
-    → IsFilled F caches b l n at place → standing (get_or caches b []) at ≡ Some line → is_owned line.state ≡ owned
+    → IsFilled F caches b l n at place → occupant (get_or caches b []) at ≡ Some line → is_owned line.state ≡ owned
     → MayDo F caches b g (if owned then plan.WriteBack (block_address line.tag) else plan.Fill l n at place)
 fill_if F caches b g at l n place line true cache none fills stands owned =
     record { line = line; there = victim_found (get_or caches b []) at line cache stands; passes = owned }
 fill_if F caches b g at l n place line false cache none fills stands owned = record {
   lacks = none;
-  victim = λ (other : Line) (there : standing (get_or caches b []) at ≡ Some other). ap (λ (m : Line). is_owned m.state) (some_line other line (sym there ∙ stands)) ∙ owned;
+  victim = λ (other : Line) (there : occupant (get_or caches b []) at ≡ Some other). ap (λ (m : Line). is_owned m.state) (some_line other line (sym there ∙ stands)) ∙ owned;
   fills = fills;
 }
 
@@ -98,7 +98,7 @@ may_fill_over : (F : Flat) (caches : List (List (Option Line))) (b g at : ℕ) (
     → IsFilled F caches b l n at place → victim_of (get_or caches b []) at ≡ o → MayDo F caches b g (fill_over o (plan.Fill l n at place))
 may_fill_over F caches b g at l n place None cache none fills is = record {
   lacks = none;
-  victim = λ (other : Line) (there : standing (get_or caches b []) at ≡ Some other).
+  victim = λ (other : Line) (there : occupant (get_or caches b []) at ≡ Some other).
       let clash : None ≡ Some other = sym is ∙ victim_here (get_or caches b []) at other there none in
       cc;
   fills = fills;

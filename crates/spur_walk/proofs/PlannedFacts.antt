@@ -6,13 +6,12 @@ use Rattle.spur_cache.specs.declared.line.Line.{Line}
 use Rattle.spur_cache.specs.Lines.{found, victim_of}
 use Rattle.spur_snoop.specs.declared.Need.{Need}
 use Rattle.spur_snoop.specs.declared.Need.TheVariants.{Read, Write}
-use Rattle.spur_snoop.specs.Protocol.{is_owned}
+use Rattle.spur_snoop.specs.Protocol.{is_owned, is_exclusive}
 use Rattle.spur_flat.specs.declared.access.FaultKind.{FaultKind}
 use Rattle.spur_flat.specs.declared.access.FaultKind.TheVariants as fault
 use Rattle.spur_flat.specs.declared.entry.Layer.{Layer}
 use Rattle.spur_flat.specs.declared.entry.Layer.TheVariants.{RootBlock, PteBlock, UserBlock}
 use Rattle.spur_flat.specs.Pager.{word_of}
-use Rattle.spur_flat.specs.TagRules.{is_exclusive}
 use Rattle.spur_bus.specs.declared.place.Place.{Place}
 use Rattle.spur_walk.specs.declared.looked.Looked.{Looked}
 use Rattle.spur_walk.specs.declared.looked.Looked.TheVariants.{Hit, Denied, NeedsDirty, NeedsClaim, Miss}

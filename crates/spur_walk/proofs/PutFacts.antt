@@ -4,13 +4,13 @@ use Rattle.std.proofs.lemmas.Bool.{cases_eq}
 use Rattle.std.proofs.lemmas.List.{length-set}
 use Rattle.std.proofs.lemmas.Option.{slice_get-get_or}
 use Rattle.spur_cache.specs.declared.line.Line.{Line}
-use Rattle.spur_cache.specs.Lines.{IsCache, IsHeld, line_at, slot_of}
+use Rattle.spur_cache.specs.Lines.{IsCache, IsHeld, line_at, index_of}
 use Rattle.spur_cache.proofs.CacheFacts.{cache-set}
 use Rattle.spur_snoop.specs.declared.BlockState.TheVariants.{OwnedExclusive}
 use Rattle.spur_snoop.specs.Protocol.{is_owned}
 use Rattle.spur_bus.specs.Boards.{line_in, line_of}
 use Rattle.spur_bus.specs.Logical.{owner_of, logical_word, word_or}
-use Rattle.spur_bus.specs.Agrees.{Agrees, Serves, IsAt}
+use Rattle.spur_bus.specs.Agrees.{Agrees, AgreesWithMemory, IsAt}
 use Rattle.spur_bus.specs.Calls.{KeepsWords, line_count}
 use Rattle.spur_bus.proofs.LineFacts.{slice_get-set_same, slice_get-set_other, some_same, set_hit, set_there, set_away, line_within}
 use Rattle.spur_bus.proofs.OwnerFacts.{OwnsAt, Owner, Owned, Free, owner, logical_owned}
@@ -112,9 +112,9 @@ put_cache own s fresh line cache there like =
       tag = subst (λ (n : ℕ). n < 2 ^ 33) (sym like.tag) held.tag;
       words = like.full;
     } in
-    let place : slot_of own fresh.tag ≡ s = ap (slot_of own) like.tag ∙ cache.placed s line there in
+    let place : index_of own fresh.tag ≡ s = ap (index_of own) like.tag ∙ cache.placed s line there in
     cache-set own s (Some fresh) cache (record {
-      placed = λ (l : Line) (is : Some fresh ≡ Some l). ap (λ (m : Line). slot_of own m.tag) (sym (some_same fresh l is)) ∙ place;
+      placed = λ (l : Line) (is : Some fresh ≡ Some l). ap (λ (m : Line). index_of own m.tag) (sym (some_same fresh l is)) ∙ place;
       held = λ (l : Line) (is : Some fresh ≡ Some l). subst IsHeld (some_same fresh l is) sound;
     })
 
@@ -235,14 +235,14 @@ alike caches b s fresh line agree within there like = record {
 }
 
 -- each line serves as before
-same_in : (caches : List (List (Option Line))) (b s : ℕ) (fresh line : Line) (memory : List ℕ) (i t k : ℕ) (l : Line) → Serves caches memory → line_in caches b s ≡ Some line → IsLike line fresh
+same_in : (caches : List (List (Option Line))) (b s : ℕ) (fresh line : Line) (memory : List ℕ) (i t k : ℕ) (l : Line) → AgreesWithMemory caches memory → line_in caches b s ≡ Some line → IsLike line fresh
     → IsAt k l → Put caches b s fresh i t l → slice_index l.words (k % 8) ≡ logical_word caches memory k
 same_in caches b s fresh line memory i t k l serves here like is (Here e u l_is) =
     let at_line : IsAt k line = record { frame = is.frame ∙ ap (λ (m : Line). m.frame) l_is ∙ like.frame; position = is.position ∙ ap (λ (m : Line). m.tag % 128) l_is ∙ ap (λ (n : ℕ). n % 128) like.tag } in
     ap (λ (m : Line). slice_index m.words (k % 8)) l_is ∙ ap (λ (ws : List ℕ). slice_index ws (k % 8)) like.words ∙ serves.words b s k line here at_line
 same_in caches b s fresh line memory i t k l serves here like is (There stood away) = serves.words i t k l stood is
 
-pub keeps-put : (caches : List (List (Option Line))) (b s : ℕ) (fresh line : Line) (memory : List ℕ) → Agrees caches → Serves caches memory → b < length caches → line_in caches b s ≡ Some line → IsLike line fresh
+pub keeps-put : (caches : List (List (Option Line))) (b s : ℕ) (fresh line : Line) (memory : List ℕ) → Agrees caches → AgreesWithMemory caches memory → b < length caches → line_in caches b s ≡ Some line → IsLike line fresh
     → KeepsWords caches (put caches b s fresh) memory memory
 keeps-put caches b s fresh line memory agree serves within here like =
     let news : List (List (Option Line)) = put caches b s fresh in

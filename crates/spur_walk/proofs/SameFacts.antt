@@ -7,7 +7,7 @@ use Rattle.spur_cache.specs.declared.line.Line.{Line}
 use Rattle.spur_flat.specs.declared.flat.Flat.{Flat}
 use Rattle.spur_flat.specs.Blocks.{root_word_of}
 use Rattle.spur_flat.specs.Pager.{word_of}
-use Rattle.spur_walk.specs.Tables.{HasTables, IsFrame, OfPage, OfRoot, OfTable, StandsIn, block_address, user_roots}
+use Rattle.spur_walk.specs.Tables.{HasTables, IsPageFrame, OfPage, OfRoot, OfTable, StandsIn, block_address, user_roots}
 use Rattle.spur_walk.proofs.FillFacts.{Suits}
 use Rattle.spur_walk.proofs.FrameFacts.{root_small}
 
@@ -22,7 +22,7 @@ small r few = let f : r < 255 * 2 ^ 8 = few in let g : r < 2 ^ 16 = omega arith 
 
 -- what is said of tables is said of it
 module _ (F G : Flat) (s : SameTables F G) where
-  pub is_frame : (n : ℕ) → IsFrame F n → IsFrame G n
+  pub is_frame : (n : ℕ) → IsPageFrame F n → IsPageFrame G n
   is_frame n f = record { low = f.low; room = subst (λ (m : ℕ). n * 1024 + 1024 ≤ m) (sym s.size) f.room }
 
   valid_root : (r : ℕ) → r < user_roots → is_valid (slice_index G.words r) ≡ true → is_valid (slice_index F.words r) ≡ true
@@ -43,9 +43,9 @@ module _ (F G : Flat) (s : SameTables F G) where
     root_readable = λ (r : ℕ) (few : r < user_roots). subst (λ (n : ℕ). IsTrue (is_readable n)) (sym (s.root r (small r few))) (ok.root_readable r few);
     readable = λ (to : ℕ) (user : to < table_start). subst (λ (n : ℕ). IsTrue (is_readable n)) (sym (s.word to user)) (ok.readable to user);
     root_frame = λ (r : ℕ) (few : r < user_roots) (v : is_valid (slice_index G.words r) ≡ true).
-        is_frame (number_of (slice_index G.words r)) (subst (λ (n : ℕ). IsFrame F n) (sym (number_root r few)) (ok.root_frame r few (valid_root r few v)));
+        is_frame (number_of (slice_index G.words r)) (subst (λ (n : ℕ). IsPageFrame F n) (sym (number_root r few)) (ok.root_frame r few (valid_root r few v)));
     frame = λ (to : ℕ) (user : to < table_start) (v : is_valid (word_of G to) ≡ true).
-        is_frame (number_of (word_of G to)) (subst (λ (n : ℕ). IsFrame F n) (sym (number_word to user)) (ok.frame to user (valid_word to user v)));
+        is_frame (number_of (word_of G to)) (subst (λ (n : ℕ). IsPageFrame F n) (sym (number_word to user)) (ok.frame to user (valid_word to user v)));
     root_apart = λ (r t : ℕ) (fr : r < user_roots) (ft : t < user_roots) (vr : is_valid (slice_index G.words r) ≡ true) (vt : is_valid (slice_index G.words t) ≡ true) (same : number_of (slice_index G.words r) ≡ number_of (slice_index G.words t)).
         ok.root_apart r t fr ft (valid_root r fr vr) (valid_root t ft vt) (sym (number_root r fr) ∙ same ∙ number_root t ft);
     apart = λ (at to : ℕ) (ua : at < table_start) (ut : to < table_start) (va : is_valid (word_of G at) ≡ true) (vt : is_valid (word_of G to) ≡ true) (same : number_of (word_of G at) ≡ number_of (word_of G to)).

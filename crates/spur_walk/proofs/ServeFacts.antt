@@ -10,7 +10,7 @@ use Rattle.spur_addr.specs.PageEntry.{is_valid, is_dirty, is_leaving, protection
 use Rattle.spur_addr.specs.declared.page_entry.Protection.{Protection}
 use Rattle.spur_addr.specs.declared.page_entry.Protection.TheVariants as allow
 use Rattle.spur_cache.specs.declared.line.Line.{Line}
-use Rattle.spur_cache.specs.Lines.{IsCache, found, line_at, slot_of, tagged, victim_of, with_line}
+use Rattle.spur_cache.specs.Lines.{IsCache, found, line_at, index_of, tagged, victim_of, with_line}
 use Rattle.spur_cache.proofs.CacheFacts.{found_tag, tagged_there}
 use Rattle.spur_snoop.specs.declared.BlockState.TheVariants.{OwnedExclusive}
 use Rattle.spur_snoop.specs.declared.BusKind.{BusKind}
@@ -31,7 +31,7 @@ use Rattle.spur_flat.specs.Needed.{is_block, is_modest}
 use Rattle.spur_flat.specs.Pager.{word_of}
 use Rattle.spur_flat.specs.TagRules.{access_of}
 use Rattle.spur_bus.specs.declared.place.Place.{Place}
-use Rattle.spur_bus.specs.Boards.{line_of_block, restated_line, told, turned, turned_lines}
+use Rattle.spur_bus.specs.Boards.{line_of_block, restated_line, snooped_lines, turned, turned_lines}
 use Rattle.spur_bus.specs.Logical.{logical_block}
 use Rattle.spur_bus.specs.Agrees.{Agrees}
 use Rattle.spur_bus.specs.Calls.{line_count, read_line}
@@ -138,7 +138,7 @@ over_serves : (own : List (Option Line)) (b lines at : ℕ) (blocks : List ℕ) 
 over_serves own b lines at blocks owned g l n place None cache count is has modest = fill_serves b lines at blocks owned l n has modest
 over_serves own b lines at blocks owned g l n place (Some line) cache count is has modest =
     let v = victim_is own at line is in
-    let slot : line.tag % length own ≡ block_of at % length own = cache.placed (slot_of own (block_of at)) line v.stands in
+    let slot : line.tag % length own ≡ block_of at % length own = cache.placed (index_of own (block_of at)) line v.stands in
     over_if b lines at blocks owned g l n place line (is_owned line.state) has (sym (subst (λ (m : ℕ). line.tag % m ≡ block_of at % m) (sym count) slot)) modest
 
 filling_serves : (own : List (Option Line)) (b lines at : ℕ) (blocks : List ℕ) (owned : Option ℕ) (g : ℕ) (l : Layer) (n : Need) (place : Place) → IsCache own → lines ≡ length own → Has (block_of at) blocks
@@ -238,17 +238,17 @@ pub own-turned : (caches : List (List (Option Line))) (b g : ℕ) (kind : BusKin
 own-turned caches b g kind fresh within =
     get_or-each (turned_lines b g kind fresh) 0 caches b [] within
     ∙ ap (λ (n : ℕ). turned_lines b g kind fresh n (get_or caches b [])) (zero-add b)
-    ∙ ap (λ (x : Bool). if x then with_line (get_or caches b []) fresh else told (get_or caches b []) g kind) (eq-eqb b b refl)
+    ∙ ap (λ (x : Bool). if x then with_line (get_or caches b []) fresh else snooped_lines (get_or caches b []) g kind) (eq-eqb b b refl)
 
 -- a line that was put in its place is found there
 pub found_same : (own : List (Option Line)) (fresh : Line) (g : ℕ) → IsCache own → fresh.tag ≡ block_of g → found (with_line own fresh) g ≡ Some fresh
 found_same own fresh g cache tag =
-    let size : length (with_line own fresh) ≡ length own = length-set own (slot_of own fresh.tag) (Some fresh) in
+    let size : length (with_line own fresh) ≡ length own = length-set own (index_of own fresh.tag) (Some fresh) in
     let some : 16 ≤ length own = cache.count.some_lines in
     let positive : 0 < length own = omega arith in
-    let slot : slot_of (with_line own fresh) (block_of g) ≡ slot_of own fresh.tag = ap (λ (n : ℕ). block_of g % n) size ∙ ap (slot_of own) (sym tag) in
+    let slot : index_of (with_line own fresh) (block_of g) ≡ index_of own fresh.tag = ap (λ (n : ℕ). block_of g % n) size ∙ ap (index_of own) (sym tag) in
     ap (λ (s : ℕ). tagged (block_of g) (line_at (with_line own fresh) s)) slot
-    ∙ ap (tagged (block_of g)) (set_there own (slot_of own fresh.tag) (Some fresh) (mod-lt fresh.tag positive))
+    ∙ ap (tagged (block_of g)) (set_there own (index_of own fresh.tag) (Some fresh) (mod-lt fresh.tag positive))
     ∙ tagged_there (block_of g) fresh tag
 
 -- the access hits

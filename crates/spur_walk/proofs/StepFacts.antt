@@ -8,7 +8,7 @@ use Rattle.spur_addr.specs.PageEntry.{is_dirty, is_leaving}
 use Rattle.spur_addr.specs.declared.page_entry.Protection.{Protection}
 use Rattle.spur_cache.specs.declared.line.Line.{Line}
 use Rattle.spur_cache.specs.Lens.{IsLens, Lens, caches}
-use Rattle.spur_cache.specs.Lines.{changed_found, dirtied, slot_of, with_dirty}
+use Rattle.spur_cache.specs.Lines.{changed_found, dirtied, index_of, with_dirty}
 use Rattle.spur_cache.proofs.CacheFacts.{found_held}
 use Rattle.spur_snoop.specs.declared.BlockState.{BlockState}
 use Rattle.spur_snoop.specs.declared.BlockState.TheVariants.{UnOwned, OwnedExclusive}
@@ -25,11 +25,11 @@ use Rattle.spur_flat.specs.declared.entry.Layer.{Layer}
 use Rattle.spur_flat.specs.Pager.{word_of}
 use Rattle.spur_flat.specs.TagLines.{each_from, filled_state, kind_of, tags_on}
 use Rattle.spur_flat.specs.TagLines as T
-use Rattle.spur_flat.specs.TagRules.{dirty_copy, held, state_number}
+use Rattle.spur_flat.specs.TagRules.{dirty_copy, tag_condition, state_number}
 use Rattle.spur_bus.specs.declared.place.Place.{Place}
 use Rattle.spur_bus.specs.Boards.{line_in, line_of_block, restated_line, turned, turned_lines}
 use Rattle.spur_bus.specs.Logical.{logical_block, logical_words}
-use Rattle.spur_bus.specs.Agrees.{Agrees, Serves}
+use Rattle.spur_bus.specs.Agrees.{Agrees, AgreesWithMemory}
 use Rattle.spur_bus.specs.Calls.{HasLine, KeepsAllWords, claimed, shared_again, written_back, MovesTags, MovesTagsAs, cache_tags, line_count, read_line, tag_of, tags_of}
 use Rattle.spur_bus.proofs.Turn.{CameFrom}
 use Rattle.spur_bus.proofs.EachFacts.{length-each, set_each}
@@ -137,7 +137,7 @@ same_flat before after old new same = ap (λ (ws : List ℕ). record { words = w
 -- what a step did, on caches and memory
 pub record Did (before : List (List (Option Line))) (old : List ℕ) (after : List (List (Option Line))) (new : List ℕ) : Type 0 where
   pub agree : Agrees after
-  pub serves : Serves after new
+  pub serves : AgreesWithMemory after new
   pub logical : logical_words after new ≡ logical_words before old
   pub mapped : AreMapped (logical_flat before old) after
   pub present : ArePresent (logical_flat before old) before → ArePresent (logical_flat before old) after
@@ -199,7 +199,7 @@ fault_steps caches memory b g kind may =
 -- a line put in another state
 restated_did : (caches news : List (List (Option Line))) (old new : List ℕ) (b g : ℕ) (kind : BusKind) (state : BlockState) (line : Line) → MayWalk caches old → b < length caches → line_of_block caches b g ≡ Some line
     → (root_start ≤ block_address line.tag → is_owned state ≡ false) → news ≡ turned caches b g kind (record line { state = state })
-    → Agrees news → Serves news new → logical_words news new ≡ logical_words caches old → line_count news ≡ line_count caches → length new ≡ length old → Did caches old news new
+    → Agrees news → AgreesWithMemory news new → logical_words news new ≡ logical_words caches old → line_count news ≡ line_count caches → length new ≡ length old → Did caches old news new
 restated_did caches news old new b g kind state line may within there un is agree serves logical lines size =
     let L : Flat = logical_flat caches old in
     let fresh : Line = record line { state = state } in
@@ -240,7 +240,7 @@ claim_steps caches news memory b g now walk within may is agree words lines tags
 
 -- a write-back
 pub back_steps : (caches news : List (List (Option Line))) (old new : List ℕ) (b g at : ℕ) (now : Entry) → MayWalk caches old → b < length caches → (may : HasLine caches b at is_owned)
-    → news ≡ shared_again caches b at → new ≡ written_back old at (line_of_block caches b at) → Agrees news → Serves news new → logical_words news new ≡ logical_words caches old → line_count news ≡ line_count caches → length new ≡ length old
+    → news ≡ shared_again caches b at → new ≡ written_back old at (line_of_block caches b at) → Agrees news → AgreesWithMemory news new → logical_words news new ≡ logical_words caches old → line_count news ≡ line_count caches → length new ≡ length old
     → MovesTags caches news now → now ≡ entry.WriteBack b (block_start_of at) → Steps caches old b g (plan.WriteBack at) news new
 back_steps caches news old new b g at now walk within may is memory_is agree serves logical lines size tags now_is =
     let turns = restated_is caches news b at bus.WriteBack UnOwned may.line is may.there in
@@ -252,7 +252,7 @@ back_steps caches news old new b g at now walk within may is memory_is agree ser
 
 -- a fill
 pub fill_steps : (caches news : List (List (Option Line))) (memory : List ℕ) (b g at : ℕ) (l : Layer) (n : Need) (place : Place) (now : Entry) → MayWalk caches memory → b < length caches → MayFill (logical_flat caches memory) caches b l n at place
-    → news ≡ turned caches b at (kind_of n) (read_line at (filled_state n) place (logical_block caches memory place.frame at)) → Agrees news → Serves news memory → logical_words news memory ≡ logical_words caches memory → line_count news ≡ line_count caches
+    → news ≡ turned caches b at (kind_of n) (read_line at (filled_state n) place (logical_block caches memory place.frame at)) → Agrees news → AgreesWithMemory news memory → logical_words news memory ≡ logical_words caches memory → line_count news ≡ line_count caches
     → MovesTagsAs caches news now l n (block_start_of at) place → now ≡ entry.Fill b l n (block_start_of at) → Steps caches memory b g (plan.Fill l n at place) news memory
 fill_steps caches news memory b g at l n place now walk within may is agree serves logical lines tags now_is =
     let L : Flat = logical_flat caches memory in
@@ -279,8 +279,8 @@ fill_steps caches news memory b g at l n place now walk within may is agree serv
     tags F (fills_gives F L caches b l n at place has may.fills) ∙ ap (tags_on F (tags_of caches)) now_is)
 
 -- a dirty copy that is set
-dirtied_is : (caches : List (List (Option Line))) (b g : ℕ) (line : Line) → line_of_block caches b g ≡ Some line → dirtied_in caches b g ≡ put caches b (slot_of (get_or caches b []) (block_of g)) (dirtied line)
-dirtied_is caches b g line there = ap (λ (o : Option Line). slice_set caches b (changed_found (get_or caches b []) (slot_of (get_or caches b []) (block_of g)) dirtied o)) there
+dirtied_is : (caches : List (List (Option Line))) (b g : ℕ) (line : Line) → line_of_block caches b g ≡ Some line → dirtied_in caches b g ≡ put caches b (index_of (get_or caches b []) (block_of g)) (dirtied line)
+dirtied_is caches b g line there = ap (λ (o : Option Line). slice_set caches b (changed_found (get_or caches b []) (index_of (get_or caches b []) (block_of g)) dirtied o)) there
 
 put_stands : (F : Flat) (caches : List (List (Option Line))) (b s : ℕ) (fresh line : Line) (i t : ℕ) (l : Line) → AreMapped F caches → StandsIn F fresh.tag fresh.frame → Put caches b s fresh i t l → StandsIn F l.tag l.frame
 put_stands F caches b s fresh line i t l mapped new (Here e f is) = subst (λ (m : Line). StandsIn F m.tag m.frame) (sym is) new
@@ -295,7 +295,7 @@ refresh_did caches memory b g walk within may =
     let L : Flat = logical_flat caches memory in
     let line : Line = may.line in
     let fresh : Line = dirtied line in
-    let slot : ℕ = slot_of (get_or caches b []) (block_of g) in
+    let slot : ℕ = index_of (get_or caches b []) (block_of g) in
     let here = is_here caches b g line within may.there in
     let there : line_in caches b slot ≡ Some line = ap (line_in caches b) (sym here.slot_is) ∙ here.there in
     let like : IsLike line fresh = record { tag = refl; frame = refl; state = refl; words = refl } in
@@ -315,15 +315,15 @@ refresh_did caches memory b g walk within may =
     })
 
 dirtied_tags : (caches : List (List (Option Line))) (b g : ℕ) (line : Line) → b < length caches → line_of_block caches b g ≡ Some line
-    → tags_of (dirtied_in caches b g) ≡ T.with_tag_at (tags_of caches) b (block_of (block_start_of g)) (T.dirtied (T.tag_at (tags_of caches) b (block_of (block_start_of g))))
+    → tags_of (dirtied_in caches b g) ≡ T.with_tag_at (tags_of caches) b (block_of (block_start_of g)) (T.dirtied_tag (T.tag_at (tags_of caches) b (block_of (block_start_of g))))
 dirtied_tags caches b g line within is =
     let own : List (Option Line) = get_or caches b [] in
     let fresh : Line = dirtied line in
     ap tags_of (dirtied_is caches b g line is)
-    ∙ L.map-set cache_tags caches b (slice_set own (slot_of own (block_of g)) (Some fresh))
+    ∙ L.map-set cache_tags caches b (slice_set own (index_of own (block_of g)) (Some fresh))
     ∙ ap (slice_set (tags_of caches) b) (with-tags own (block_of g) (Some fresh) ∙ ap (λ (ts : List (Option Tag)). T.with_tag ts (block_of g) (Some (tag_of fresh))) (sym (L.get_or-map cache_tags caches b [] [] within)))
-    ∙ ap (λ (t : Option Tag). T.with_tag_at (tags_of caches) b (block_of g) (T.dirtied t)) (sym (tags_in caches b g line within is))
-    ∙ ap (λ (n : ℕ). T.with_tag_at (tags_of caches) b n (T.dirtied (T.tag_at (tags_of caches) b n))) (sym (start_block g))
+    ∙ ap (λ (t : Option Tag). T.with_tag_at (tags_of caches) b (block_of g) (T.dirtied_tag t)) (sym (tags_in caches b g line within is))
+    ∙ ap (λ (n : ℕ). T.with_tag_at (tags_of caches) b n (T.dirtied_tag (T.tag_at (tags_of caches) b n))) (sym (start_block g))
 
 all_three : (a d c : Bool) → a ≡ true → d ≡ false → c ≡ true → (a && not d && c) ≡ true
 all_three true false true ha hd hc = refl
@@ -336,7 +336,7 @@ both true false ha hc = refl
 both true true ha hc = cc
 both false c ha hc = cc
 
-two_held : (a c : Bool) (m n x y : ℕ) → a ≡ true → c ≡ true → held a m x (held c n y None) ≡ None
+two_held : (a c : Bool) (m n x y : ℕ) → a ≡ true → c ≡ true → tag_condition a m x (tag_condition c n y None) ≡ None
 two_held true true m n x y ha hc = refl
 two_held true false m n x y ha hc = cc
 two_held false c m n x y ha hc = cc
@@ -348,14 +348,14 @@ refresh_tagged F caches memory b g walk within has may =
     let start : ℕ = block_start_of g in
     let own : Option Tag = T.tag_at (tags_of caches) b (block_of start) in
     let own_is : own ≡ Some (tag_of may.line) = ap (λ (n : ℕ). T.tag_at (tags_of caches) b n) (start_block g) ∙ tags_in caches b g may.line within may.there in
-    let above : BlockState = T.state_of (T.tag_at (tags_of caches) b (block_of (entry_address_of start))) in
+    let above : BlockState = T.block_state (T.tag_at (tags_of caches) b (block_of (entry_address_of start))) in
     let word : word_of F start ≡ word_of L g = same_start F L g has may.user in
     let valid : is_alive may.line.state ≡ true = alive may.line.state (found_held (get_or caches b []) g may.line (own_cache caches b walk.agree within) may.there).valid in
-    let first : (is_alive (T.state_of own) && not (dirty_copy own) && is_alive above) ≡ true =
-    all_three (is_alive (T.state_of own)) (dirty_copy own) (is_alive above) (ap (λ (o : Option Tag). is_alive (T.state_of o)) own_is ∙ valid) (ap dirty_copy own_is ∙ may.clear) (above_state caches memory b g walk within may.above) in
+    let first : (is_alive (T.block_state own) && not (dirty_copy own) && is_alive above) ≡ true =
+    all_three (is_alive (T.block_state own)) (dirty_copy own) (is_alive above) (ap (λ (o : Option Tag). is_alive (T.block_state o)) own_is ∙ valid) (ap dirty_copy own_is ∙ may.clear) (above_state caches memory b g walk within may.above) in
     let second : (is_dirty (word_of F start) && not (is_leaving (word_of F start))) ≡ true =
     both (is_dirty (word_of F start)) (is_leaving (word_of F start)) (ap (λ (w : ℕ). is_dirty w) word ∙ may.dirty) (ap (λ (w : ℕ). is_leaving w) word ∙ may.staying) in
-    two_held (is_alive (T.state_of own) && not (dirty_copy own) && is_alive above) (is_dirty (word_of F start) && not (is_leaving (word_of F start))) 14 15 (state_number above) (word_of F start) first second
+    two_held (is_alive (T.block_state own) && not (dirty_copy own) && is_alive above) (is_dirty (word_of F start) && not (is_leaving (word_of F start))) 14 15 (state_number above) (word_of F start) first second
 
 pub refresh_steps : (caches news : List (List (Option Line))) (memory : List ℕ) (b g : ℕ) → MayWalk caches memory → b < length caches → MayRefresh (logical_flat caches memory) caches b g → news ≡ dirtied_in caches b g → Steps caches memory b g plan.Refresh news memory
 refresh_steps caches news memory b g walk within may is =

@@ -6,7 +6,7 @@ use Rattle.std.proofs.lemmas.Nat.{shr-shr}
 use Rattle.spur_addr.specs.Address.{block_of, block_start_of, table_start, word_in_block_of}
 use Rattle.spur_addr.specs.PageEntry.{is_valid, number_of}
 use Rattle.spur_cache.specs.declared.line.Line.{Line}
-use Rattle.spur_cache.specs.Lines.{changed_found, found, slot_of, word_in, written}
+use Rattle.spur_cache.specs.Lines.{changed_found, found, index_of, word_in, written}
 use Rattle.spur_cache.proofs.CacheFacts.{found_held}
 use Rattle.spur_snoop.specs.declared.BlockState.{BlockState}
 use Rattle.spur_snoop.specs.declared.BlockState.TheVariants.{Invalid, OwnedExclusive, OwnedNonExclusive, UnOwned}
@@ -14,7 +14,8 @@ use Rattle.spur_snoop.specs.declared.Need.TheVariants.{Write}
 use Rattle.spur_flat.specs.declared.flat.Flat.{Flat}
 use Rattle.spur_flat.specs.Access.{grants}
 use Rattle.spur_flat.specs.Pager.{word_of}
-use Rattle.spur_flat.specs.TagRules.{access_of, is_exclusive}
+use Rattle.spur_flat.specs.TagRules.{access_of}
+use Rattle.spur_snoop.specs.Protocol.{is_exclusive}
 use Rattle.spur_bus.specs.Boards.{line_in, line_of_block}
 use Rattle.spur_bus.specs.Logical.{logical_words}
 use Rattle.spur_bus.specs.Agrees.{IsAt}
@@ -113,7 +114,7 @@ hit-stores caches memory b g value may within_b user seen =
     let line : Line = m.line in
     let own : List (Option Line) = get_or caches b [] in
     let n : ℕ = word_in_block_of g in
-    let slot : ℕ = slot_of own (block_of g) in
+    let slot : ℕ = index_of own (block_of g) in
     let fresh : Line = written n value line in
     let after : List (List (Option Line)) = put caches b slot fresh in
     let here = is_here caches b g line within_b m.there in
@@ -132,7 +133,7 @@ hit-stores caches memory b g value may within_b user seen =
     let is : with_word_in caches b g value ≡ after = ap (λ (o : Option Line). slice_set caches b (changed_found own slot (written n value) o)) m.there in
     let found_after : line_of_block after b g ≡ Some fresh =
     ap (λ (ls : List (Option Line)). found ls g)
-    (L.get_or-set_same caches b (slice_set own slot (Some fresh)) [] within_b ∙ ap (λ (t : ℕ). slice_set own (slot_of own t) (Some fresh)) (sym here.tag))
+    (L.get_or-set_same caches b (slice_set own slot (Some fresh)) [] within_b ∙ ap (λ (t : ℕ). slice_set own (index_of own t) (Some fresh)) (sym here.tag))
     ∙ found_same own fresh g (own_cache caches b may.agree within_b) here.tag in
     let found_now : line_of_block (with_word_in caches b g value) b g ≡ Some fresh = ap (λ (cs : List (List (Option Line))). line_of_block cs b g) is ∙ found_after in
     record {

@@ -18,7 +18,7 @@ use Rattle.spur_bus.proofs.WordsFacts.{logical_index}
 use Rattle.spur_walk.specs.Tables.{HasTablesOf, StandsIn, block_address, logical_flat, root_at, user_roots}
 use Rattle.spur_walk.specs.Present.{MayWalk}
 use Rattle.spur_walk.specs.Look.{look_of}
-use Rattle.spur_walk.specs.Plan.{access_plan, held, held_in, own_page_plan, own_plan, page_by, page_plan, plan_by, where_found}
+use Rattle.spur_walk.specs.Plan.{access_plan, cached_word, line_word, own_page_plan, own_plan, page_by, page_plan, plan_by, where_found}
 use Rattle.spur_walk.proofs.FrameFacts.{stands_root, stands_table}
 
 -- the address of an entry is one of the page table, and that of its root entry one of the root
@@ -163,18 +163,18 @@ root_word caches memory b at line may within user is =
     root_in_block k = omega arith
 
 -- so the plan by the words of the board's own cache is that by the tables
-held_where : (o : Option Line) (g word : ℕ) → ((line : Line) → o ≡ Some line → word ≡ slice_index line.words (word_in_block_of g)) → held_in o g ≡ where_found o word
+held_where : (o : Option Line) (g word : ℕ) → ((line : Line) → o ≡ Some line → word ≡ slice_index line.words (word_in_block_of g)) → line_word o g ≡ where_found o word
 held_where None g word h = refl
 held_where (Some line) g word h = ap (λ (n : ℕ). Some n) (sym (h line refl))
 
 pub entry_held : (caches : List (List (Option Line))) (memory : List ℕ) (b at : ℕ) → MayWalk caches memory → b < length caches → at < table_start
-    → held (get_or caches b []) (entry_address_of at) ≡ where_found (found (get_or caches b []) (entry_address_of at)) (word_of (logical_flat caches memory) at)
+    → cached_word (get_or caches b []) (entry_address_of at) ≡ where_found (found (get_or caches b []) (entry_address_of at)) (word_of (logical_flat caches memory) at)
 entry_held caches memory b at may within user =
     held_where (found (get_or caches b []) (entry_address_of at)) (entry_address_of at) (word_of (logical_flat caches memory) at)
     (λ (line : Line) (is : found (get_or caches b []) (entry_address_of at) ≡ Some line). entry_word caches memory b at line may within user is)
 
 pub root_held : (caches : List (List (Option Line))) (memory : List ℕ) (b at : ℕ) → MayWalk caches memory → b < length caches → at < table_start
-    → held (get_or caches b []) (entry_address_of (entry_address_of at)) ≡ where_found (found (get_or caches b []) (entry_address_of (entry_address_of at))) (root_at (logical_flat caches memory) at)
+    → cached_word (get_or caches b []) (entry_address_of (entry_address_of at)) ≡ where_found (found (get_or caches b []) (entry_address_of (entry_address_of at))) (root_at (logical_flat caches memory) at)
 root_held caches memory b at may within user =
     held_where (found (get_or caches b []) (entry_address_of (entry_address_of at))) (entry_address_of (entry_address_of at)) (root_at (logical_flat caches memory) at)
     (λ (line : Line) (is : found (get_or caches b []) (entry_address_of (entry_address_of at)) ≡ Some line). root_word caches memory b at line may within user is)
@@ -183,7 +183,7 @@ pub own_is : (caches : List (List (Option Line))) (memory : List ℕ) (b at : �
     → own_plan (get_or caches b []) at need ≡ access_plan caches memory b at need
 own_is caches memory b at need may within user =
     let own : List (Option Line) = get_or caches b [] in
-    ap (λ (e : Option ℕ). plan_by own at need e (held own (entry_address_of (entry_address_of at))) (look_of (found own at) need)) (entry_held caches memory b at may within user)
+    ap (λ (e : Option ℕ). plan_by own at need e (cached_word own (entry_address_of (entry_address_of at))) (look_of (found own at) need)) (entry_held caches memory b at may within user)
     ∙ ap (λ (r : Option ℕ). plan_by own at need (where_found (found own (entry_address_of at)) (word_of (logical_flat caches memory) at)) r (look_of (found own at) need)) (root_held caches memory b at may within user)
 
 pub own_page_is : (caches : List (List (Option Line))) (memory : List ℕ) (b page : ℕ) → MayWalk caches memory → b < length caches → page < table_start

@@ -14,7 +14,7 @@ use Rattle.spur_flat.specs.Pager.{or_zero, word_of}
 use Rattle.spur_bus.specs.Boards.{line_in}
 use Rattle.spur_bus.proofs.EmptyFacts.{agrees-empty, serves-empty}
 use Rattle.spur_walk.specs.Begins.{may_begin}
-use Rattle.spur_walk.specs.Tables.{HasTables, IsFrame, logical_flat, root_at, user_roots}
+use Rattle.spur_walk.specs.Tables.{HasTables, IsPageFrame, logical_flat, root_at, user_roots}
 use Rattle.spur_walk.specs.Present.{MayWalk}
 use Rattle.spur_walk.proofs.BeginFacts.{logical_memory, no_line}
 
@@ -159,7 +159,7 @@ frame_of_entry words root entry at are entries user valid =
     let e = valid_entry words root entry at are entries user valid in
     ap (λ (w : ℕ). number_of w) e.is ∙ entries.frame (ap (λ (w : ℕ). is_valid w) (sym e.is) ∙ valid)
 
-in_frame : (words : List ℕ) (n f : ℕ) → length words ≡ 67584 → n ≡ f → 64 ≤ f → f ≤ 65 → IsFrame (flat words) n
+in_frame : (words : List ℕ) (n f : ℕ) → length words ≡ 67584 → n ≡ f → 64 ≤ f → f ≤ 65 → IsPageFrame (flat words) n
 in_frame words n f long is low high = record { low = omega arith; room = omega arith }
 
 pub has_tables : (words : List ℕ) (root entry : ℕ) → AreWords words root entry → AreEntries root entry → HasTables (flat words)

@@ -12,7 +12,7 @@ use Rattle.spur_flat.specs.Validity.{IsDataFrame, IsTableFrame, IsValidFlat}
 use Rattle.spur_flat.proofs.WalkFacts.{walk_of-entry}
 use Rattle.spur_bus.specs.Logical.{logical_words}
 use Rattle.spur_bus.specs.Stand.{flat_of}
-use Rattle.spur_walk.specs.Tables.{HasTables, IsFrame, user_roots}
+use Rattle.spur_walk.specs.Tables.{HasTables, IsPageFrame, user_roots}
 use Rattle.spur_walk.specs.Laws.{LikeHasTables, ValidHasTables}
 
 walk_there : (o : Option ℕ) → is_valid (or_zero o) ≡ true → o ≡ Some (or_zero o)
@@ -45,14 +45,14 @@ readable F at ok user =
     let u : at < 255 * 2 ^ 30 = user in
     readable_at F (at / 2 ^ 22) (at / 2 ^ 12) (is_valid (slice_index F.words (at / 2 ^ 22))) ok (omega arith) refl
 
-table_frame : (F : Flat) (n : ℕ) → IsValidFlat F → IsTableFrame F.tables n → IsFrame F n
+table_frame : (F : Flat) (n : ℕ) → IsValidFlat F → IsTableFrame F.tables n → IsPageFrame F n
 table_frame F n ok frame =
     let low : 64 ≤ n = frame.low in
     let high : n < 64 + F.tables = frame.high in
     let size : length F.words ≡ 1024 * (64 + F.tables + F.frames) = ok.words in
     record { low = low; room = omega arith }
 
-data_frame : (F : Flat) (n : ℕ) → IsValidFlat F → IsDataFrame F.tables F.frames n → IsFrame F n
+data_frame : (F : Flat) (n : ℕ) → IsValidFlat F → IsDataFrame F.tables F.frames n → IsPageFrame F n
 data_frame F n ok frame =
     let low : 64 + F.tables ≤ n = frame.low in
     let high : n < 64 + F.tables + F.frames = frame.high in

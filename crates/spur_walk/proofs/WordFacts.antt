@@ -3,12 +3,12 @@ use Rattle.std.proofs.Common.{◌≡◌, ◌≢◌, ◌∙◌, ℕ, ◌+◌, ◌
 use Rattle.std.proofs.lemmas.Bool.{cases_eq}
 use Rattle.std.proofs.lemmas.List.{ext_get_or, get_or-set_other, get_or-set_same, length-set}
 use Rattle.spur_cache.specs.declared.line.Line.{Line}
-use Rattle.spur_cache.specs.Lines.{IsCache, line_at, slot_of}
+use Rattle.spur_cache.specs.Lines.{IsCache, line_at, index_of}
 use Rattle.spur_snoop.specs.declared.BlockState.TheVariants.{OwnedExclusive}
 use Rattle.spur_snoop.specs.Protocol.{is_owned}
 use Rattle.spur_bus.specs.Boards.{line_in}
 use Rattle.spur_bus.specs.Logical.{logical_word, logical_words}
-use Rattle.spur_bus.specs.Agrees.{Agrees, Serves, IsAt}
+use Rattle.spur_bus.specs.Agrees.{Agrees, AgreesWithMemory, IsAt}
 use Rattle.spur_bus.proofs.OwnerFacts.{OwnsAt, logical_owned}
 use Rattle.spur_bus.proofs.WordsFacts.{length-logical, logical_index}
 use Rattle.spur_walk.proofs.PlanFacts.{own_cache}
@@ -23,7 +23,7 @@ same_at caches b s line i t k l agree within here exclusive there at_l at_line =
     let own : List (Option Line) = get_or caches b [] in
     let cache : IsCache own = own_cache caches b agree within in
     let own_there : line_at own t ≡ Some l = stood caches b t l within (ap (λ (n : ℕ). line_in caches n t) board ∙ there) in
-    (sym board, sym (cache.placed t l own_there) ∙ ap (slot_of own) (sym tag) ∙ cache.placed s line (stood caches b s line within here))
+    (sym board, sym (cache.placed t l own_there) ∙ ap (index_of own) (sym tag) ∙ cache.placed s line (stood caches b s line within here))
 
 -- word k of the memory is word n of a line that is exclusive in cache b
 pub record IsWordOf (caches : List (List (Option Line))) (b s : ℕ) (line fresh : Line) (k n value : ℕ) : Type 0 where
@@ -62,7 +62,7 @@ here caches memory b s line fresh k n value agree within is =
     mine caches memory b s line fresh k n value k agree within is is.at
     ∙ ap (λ (ws : List ℕ). slice_index ws (k % 8)) is.words ∙ ap (slice_index (slice_set line.words n value)) is.word ∙ get_or-set_same line.words n value 0 is.small
 
-serves_in : (caches : List (List (Option Line))) (memory : List ℕ) (b s : ℕ) (line fresh : Line) (k n value i t j : ℕ) (l : Line) → Agrees caches → Serves caches memory → b < length caches → IsWordOf caches b s line fresh k n value → IsAt j l
+serves_in : (caches : List (List (Option Line))) (memory : List ℕ) (b s : ℕ) (line fresh : Line) (k n value i t j : ℕ) (l : Line) → Agrees caches → AgreesWithMemory caches memory → b < length caches → IsWordOf caches b s line fresh k n value → IsAt j l
     → Put caches b s fresh i t l → slice_index l.words (j % 8) ≡ logical_word (put caches b s fresh) memory j
 serves_in caches memory b s line fresh k n value i t j l agree serves within is at_j (Here ei et l_is) =
     let at_line : IsAt j line = record { frame = at_j.frame ∙ ap (λ (m : Line). m.frame) l_is ∙ is.alike.frame; position = at_j.position ∙ ap (λ (m : Line). m.tag % 128) l_is ∙ ap (λ (m : ℕ). m % 128) is.alike.tag } in
@@ -73,8 +73,8 @@ serves_in caches memory b s line fresh k n value i t j l agree serves within is 
     off two.0 two.1 in
     serves.words i t j l was at_j ∙ sym (away caches memory b s line fresh k n value j agree within is apart)
 
-pub serves-written : (caches : List (List (Option Line))) (memory : List ℕ) (b s : ℕ) (line fresh : Line) (k n value : ℕ) → Agrees caches → Serves caches memory → b < length caches → IsWordOf caches b s line fresh k n value
-    → Serves (put caches b s fresh) memory
+pub serves-written : (caches : List (List (Option Line))) (memory : List ℕ) (b s : ℕ) (line fresh : Line) (k n value : ℕ) → Agrees caches → AgreesWithMemory caches memory → b < length caches → IsWordOf caches b s line fresh k n value
+    → AgreesWithMemory (put caches b s fresh) memory
 serves-written caches memory b s line fresh k n value agree serves within is = record {
   within = λ (i t : ℕ) (l : Line) (h : line_in (put caches b s fresh) i t ≡ Some l).
       let w = was caches b s fresh line i t l within is.there is.alike h in

@@ -3,7 +3,7 @@ use Rattle.std.proofs.Common.{◌≡◌, ◌∙◌, ℕ, zero, suc, ◌<◌, ap,
 use Rattle.std.proofs.lemmas.List as L
 use Rattle.spur_addr.specs.Address.{block_of, table_start}
 use Rattle.spur_cache.specs.declared.line.Line.{Line}
-use Rattle.spur_cache.specs.Lines.{line_at, slot_of, written}
+use Rattle.spur_cache.specs.Lines.{line_at, index_of, written}
 use Rattle.spur_flat.specs.declared.flat.Flat.{Flat}
 use Rattle.spur_bus.specs.Boards.{line_in}
 use Rattle.spur_bus.specs.Calls.{cache_tags, tags_of}
@@ -20,11 +20,11 @@ set_same (z ∷ zs) zero line h = ap (λ (o : Option Line). o ∷ zs) (sym h)
 set_same (z ∷ zs) (suc s) line h = ap (λ (rest : List (Option Line)). z ∷ rest) (set_same zs s line h)
 
 -- a word says nothing of a tag
-pub tags-written : (caches : List (List (Option Line))) (b g n e : ℕ) (line : Line) → b < length caches → line_in caches b (slot_of (get_or caches b []) (block_of g)) ≡ Some line
-    → tags_of (put caches b (slot_of (get_or caches b []) (block_of g)) (written n e line)) ≡ tags_of caches
+pub tags-written : (caches : List (List (Option Line))) (b g n e : ℕ) (line : Line) → b < length caches → line_in caches b (index_of (get_or caches b []) (block_of g)) ≡ Some line
+    → tags_of (put caches b (index_of (get_or caches b []) (block_of g)) (written n e line)) ≡ tags_of caches
 tags-written caches b g n e line within there =
     let own : List (Option Line) = get_or caches b [] in
-    let slot : ℕ = slot_of own (block_of g) in
+    let slot : ℕ = index_of own (block_of g) in
     L.map-set cache_tags caches b (slice_set own slot (Some (written n e line)))
     ∙ ap (slice_set (tags_of caches) b) (with-tags own (block_of g) (Some (written n e line)) ∙ sym (with-tags own (block_of g) (Some line)))
     ∙ sym (L.map-set cache_tags caches b (slice_set own slot (Some line)))

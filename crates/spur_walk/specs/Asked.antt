@@ -10,11 +10,11 @@ use Rattle.spur_snoop.specs.declared.BusWant.{BusWant}
 use Rattle.spur_snoop.specs.declared.BusWant.TheVariants as want
 use Rattle.spur_snoop.specs.declared.Need.{Need}
 use Rattle.spur_snoop.specs.declared.Need.TheVariants.{Read, Write}
-use Rattle.spur_snoop.specs.Protocol.{asked_of}
+use Rattle.spur_snoop.specs.Protocol.{asked_of, is_alive}
 use Rattle.spur_flat.specs.declared.entry.Layer.{Layer}
 use Rattle.spur_flat.specs.declared.entry.Layer.TheVariants.{PteBlock, UserBlock}
 use Rattle.spur_flat.specs.Access.{grants}
-use Rattle.spur_flat.specs.TagRules.{access_of, is_alive, is_read}
+use Rattle.spur_flat.specs.TagRules.{access_of, is_read}
 use Rattle.spur_bus.specs.Agrees.{Agrees}
 use Rattle.spur_bus.specs.Boards.{line_of_block, turned}
 use Rattle.spur_walk.specs.declared.looked.Looked.{Looked}

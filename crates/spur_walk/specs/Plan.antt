@@ -128,19 +128,19 @@ abbrev pub page_plan : List (List (Option Line)) → List ℕ → ℕ → ℕ �
 page_plan caches memory b page = page_plan_of (get_or caches b []) (logical_flat caches memory) page
 
 -- the word of g in a line of its block, where the cache has one
-abbrev pub held_in : Option Line → ℕ → Option ℕ
-held_in None g = None
-held_in (Some line) g = Some (slice_index line.words (word_in_block_of g))
+abbrev pub line_word : Option Line → ℕ → Option ℕ
+line_word None g = None
+line_word (Some line) g = Some (slice_index line.words (word_in_block_of g))
 
-abbrev pub held : List (Option Line) → ℕ → Option ℕ
-held own g = held_in (found own g) g
+abbrev pub cached_word : List (Option Line) → ℕ → Option ℕ
+cached_word own g = line_word (found own g) g
 
 -- the same steps by the words that the cache itself has
 abbrev pub own_plan : List (Option Line) → ℕ → Need → Plan
-own_plan own at need = plan_by own at need (held own (entry_address_of at)) (held own (entry_address_of (entry_address_of at))) (look_of (found own at) need)
+own_plan own at need = plan_by own at need (cached_word own (entry_address_of at)) (cached_word own (entry_address_of (entry_address_of at))) (look_of (found own at) need)
 
 abbrev pub own_page_plan : List (Option Line) → ℕ → Plan
-own_page_plan own page = page_by own page (held own (entry_address_of (entry_address_of page))) (found own (entry_address_of page))
+own_page_plan own page = page_by own page (cached_word own (entry_address_of (entry_address_of page))) (found own (entry_address_of page))
 
 -- the word of g in the cache's line of its block is one of an entry, where it has one
 abbrev pub IsReadableIn : List (Option Line) → ℕ → Type 0

@@ -8,7 +8,7 @@ use Rattle.spur_flat.specs.declared.flat.Flat.{Flat}
 use Rattle.spur_flat.specs.Blocks.{root_word_of, wired_frame}
 use Rattle.spur_flat.specs.Pager.{word_of}
 use Rattle.spur_bus.specs.Boards.{line_in}
-use Rattle.spur_bus.specs.Agrees.{Agrees, Serves}
+use Rattle.spur_bus.specs.Agrees.{Agrees, AgreesWithMemory}
 use Rattle.spur_walk.specs.Tables.{logical_flat, HasTables, StandsIn, block_address}
 
 -- each valid line is of a page whose entry is valid and has the line's frame, or is of the root and has its wired frame
@@ -19,7 +19,7 @@ AreMapped F caches = (i s : ℕ) (line : Line) → line_in caches i s ≡ Some l
 -- that can be walked, and lines that are mapped by them
 pub record MayWalk (caches : List (List (Option Line))) (memory : List ℕ) : Type 0 where
   pub agree : Agrees caches
-  pub serves : Serves caches memory
+  pub serves : AgreesWithMemory caches memory
   pub tables : HasTables (logical_flat caches memory)
   pub mapped : AreMapped (logical_flat caches memory) caches
 

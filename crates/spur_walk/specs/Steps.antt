@@ -3,7 +3,7 @@ use Rattle.std.specs.Prelude.{ℕ, ◌≡◌, ◌<◌, ◌≤◌, ◌==◌, ◌+
 use Rattle.spur_addr.specs.Address.{block_start_of, entry_address_of, table_start, root_start}
 use Rattle.spur_addr.specs.PageEntry.{is_valid, is_dirty, is_leaving}
 use Rattle.spur_cache.specs.declared.line.Line.{Line}
-use Rattle.spur_cache.specs.Lines.{standing, with_dirty}
+use Rattle.spur_cache.specs.Lines.{occupant, with_dirty}
 use Rattle.spur_snoop.specs.declared.Need.{Need}
 use Rattle.spur_snoop.specs.declared.Need.TheVariants.{Read}
 use Rattle.spur_snoop.specs.Protocol.{is_owned}
@@ -62,7 +62,7 @@ pub data IsFilled (F : Flat) (caches : List (List (Option Line))) (b : ℕ) : La
 -- cache b lacks the block of g, no owned line stands on its place, and it may be filled from there
 pub record MayFill (F : Flat) (caches : List (List (Option Line))) (b : ℕ) (layer : Layer) (need : Need) (g : ℕ) (place : Place) : Type 0 where
   pub lacks : line_of_block caches b g ≡ None
-  pub victim : (line : Line) → standing (get_or caches b []) g ≡ Some line → is_owned line.state ≡ false
+  pub victim : (line : Line) → occupant (get_or caches b []) g ≡ Some line → is_owned line.state ≡ false
   pub fills : IsFilled F caches b layer need g place
 
 -- what a plan of board b towards g needs

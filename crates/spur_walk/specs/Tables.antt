@@ -21,7 +21,7 @@ abbrev pub user_roots : ℕ
 user_roots = 255 * 2 ^ 8
 
 -- a frame that a valid entry may name: it is past the 64 of the root, and one of the memory's
-pub record IsFrame (F : Flat) (frame : ℕ) : Type 0 where
+pub record IsPageFrame (F : Flat) (frame : ℕ) : Type 0 where
   pub low : 64 ≤ frame
   pub room : frame * 1024 + 1024 ≤ length F.words
 
@@ -32,8 +32,8 @@ pub record HasTables (F : Flat) : Type 0 where
   pub root : 2 ^ 16 ≤ length F.words
   pub root_readable : (r : ℕ) → r < user_roots → IsTrue (is_readable (slice_index F.words r))
   pub readable : (at : ℕ) → at < table_start → IsTrue (is_readable (word_of F at))
-  pub root_frame : (r : ℕ) → r < user_roots → is_valid (slice_index F.words r) ≡ true → IsFrame F (number_of (slice_index F.words r))
-  pub frame : (at : ℕ) → at < table_start → is_valid (word_of F at) ≡ true → IsFrame F (number_of (word_of F at))
+  pub root_frame : (r : ℕ) → r < user_roots → is_valid (slice_index F.words r) ≡ true → IsPageFrame F (number_of (slice_index F.words r))
+  pub frame : (at : ℕ) → at < table_start → is_valid (word_of F at) ≡ true → IsPageFrame F (number_of (word_of F at))
   pub root_apart : (r s : ℕ) → r < user_roots → s < user_roots → is_valid (slice_index F.words r) ≡ true → is_valid (slice_index F.words s) ≡ true
       → number_of (slice_index F.words r) ≡ number_of (slice_index F.words s) → r ≡ s
   pub apart : (at to : ℕ) → at < table_start → to < table_start → is_valid (word_of F at) ≡ true → is_valid (word_of F to) ≡ true

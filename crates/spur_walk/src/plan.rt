@@ -6,7 +6,7 @@ ghost use Rattle.spur_addr.specs.PageEntry.{is_readable};
 ghost use Rattle.spur_cache.specs.Lines.{IsCache};
 ghost use Rattle.spur_snoop.specs.Protocol.{is_owned};
 ghost use Rattle.spur_flat.specs.declared.entry.Layer.TheVariants as layer;
-ghost use Rattle.spur_walk.specs.Plan.{IsReadableIn, climb, dirty_plan, fault_of, filling, held, own_page_plan, own_plan};
+ghost use Rattle.spur_walk.specs.Plan.{IsReadableIn, climb, dirty_plan, fault_of, filling, cached_word, own_page_plan, own_plan};
 ghost use Rattle.spur_walk.specs.Plan.{page_climb, root_plan, table_place, table_plan, user_plan};
 ghost use Rattle.spur_walk.specs.Tables.{block_address};
 
@@ -89,7 +89,7 @@ pub(crate) fn page_step(own: &Cache, page: GlobalAddr) -> Plan
 /// A page-table entry, where the cache has the block of its address.
 fn held_entry(own: &Cache, at: GlobalAddr) -> Option<Pte>
     requires { IsReadableIn own.now at }
-    ensures { result ≡ held own.now at }
+    ensures { result ≡ cached_word own.now at }
 {
     match own.find(at) {
         Some(line) => Some(entry(line.words[at.word_in_block() as usize])),
@@ -165,7 +165,7 @@ fn fault(entry: Pte, need: Need) -> Option<FaultKind>
 fn climb_step(own: &Cache, at: GlobalAddr) -> Plan
     requires cache { IsCache own.now }
     requires root { IsReadableIn own.now (entry_address_of (entry_address_of at)) }
-    ensures { result ≡ climb own.now at (held own.now (entry_address_of (entry_address_of at))) }
+    ensures { result ≡ climb own.now at (cached_word own.now (entry_address_of (entry_address_of at))) }
 {
     match held_entry(own, pte_of(pte_of(at))) {
         Some(root) => table_step(own, at, root),
@@ -177,7 +177,7 @@ fn climb_step(own: &Cache, at: GlobalAddr) -> Plan
 fn page_climb_step(own: &Cache, page: GlobalAddr) -> Plan
     requires cache { IsCache own.now }
     requires root { IsReadableIn own.now (entry_address_of (entry_address_of page)) }
-    ensures { result ≡ page_climb own.now page (held own.now (entry_address_of (entry_address_of page))) }
+    ensures { result ≡ page_climb own.now page (cached_word own.now (entry_address_of (entry_address_of page))) }
 {
     match held_entry(own, pte_of(pte_of(page))) {
         Some(root) => table_fill(own, page, Need::Write, root),

@@ -4,7 +4,7 @@ ghost use Rattle.std.specs.Prelude.{◌≡◌, ◌<◌, IsSome, length};
 ghost use Rattle.spur_addr.specs.Address.{block_start_of};
 ghost use Rattle.spur_cache.specs.Lens.{OnlyLines, caches};
 ghost use Rattle.spur_flat.specs.declared.entry.Entry.TheVariants as entry;
-ghost use Rattle.spur_bus.specs.Agrees.{Agrees, Serves};
+ghost use Rattle.spur_bus.specs.Agrees.{Agrees, AgreesWithMemory};
 ghost use Rattle.spur_bus.specs.Boards.{line_of_block};
 ghost use Rattle.spur_bus.specs.Logical.{logical_of};
 ghost use Rattle.spur_bus.specs.Calls.{MayRead, MovesTagsAs, line_count, read_caches};
@@ -87,13 +87,13 @@ fn read<T: HasCache>(
 ) -> Entry
     requires own { b < length boards.old }
     requires agree { Agrees (caches T.lens boards.old) }
-    requires serves { Serves (caches T.lens boards.old) phys.now }
+    requires serves { AgreesWithMemory (caches T.lens boards.old) phys.now }
     requires may { MayRead (caches T.lens boards.old) phys.now b at place.frame }
     ensures entry { result ≡ entry.Fill b layer need (block_start_of at) }
     ensures change { caches T.lens boards.new ≡ read_caches (caches T.lens boards.old) phys.now b need at place }
     ensures lens { OnlyLines T.lens boards.old boards.new }
     ensures agree { Agrees (caches T.lens boards.new) }
-    ensures serves { Serves (caches T.lens boards.new) phys.now }
+    ensures serves { AgreesWithMemory (caches T.lens boards.new) phys.now }
     ensures logical { logical_of T.lens boards.new phys.now ≡ logical_of T.lens boards.old phys.now }
     ensures lines { line_count (caches T.lens boards.new) ≡ line_count (caches T.lens boards.old) }
     ensures tags {

@@ -1,14 +1,14 @@
 use Rattle.std.proofs.Common.{◌≡◌, ◌∙◌, ap, sym}
 use Rattle.spur_cache.specs.Lens.{OnlyLines, caches}
 use Rattle.spur_flat.specs.TagLines.{each_from}
-use Rattle.spur_bus.specs.Boards.{changed_board, told_unless}
+use Rattle.spur_bus.specs.Boards.{changed_board, snooped_unless}
 use Rattle.spur_bus.proofs.EachFacts.{each_step}
 use Rattle.spur_bus.proofs.LensFacts.{caches-each, only_lines-each}
 use Rattle.spur_bus.proofs.snoop.tell_others.Goals as goal
 
 pub loop-k-preserved : goal.loop-k-preserved
 loop-k-preserved g c =
-    let change = changed_board g.T.HasCache.lens (told_unless c.args.own c.args.at c.args.kind) in
+    let change = changed_board g.T.HasCache.lens (snooped_unless c.args.own c.args.at c.args.kind) in
     let both = each_step change c.loop-k.boards c.args.boards.now c.loop-k.k c.index-boards-k.result c.tell_board.new.board
     c.loop-k-test.true c.loop-k.auto.boards c.loop-k.invariant.done c.loop-k.invariant.left c.tell_board.ensures in
     record { done = both.0; left = both.1 }

@@ -3,7 +3,7 @@ use Rattle.std.specs.Option.{option_copied}
 use Rattle.std.proofs.lemmas.List.{length-map}
 use Rattle.spur_cache.specs.declared.line.Line.{Line}
 use Rattle.spur_cache.specs.Lines.{found}
-use Rattle.spur_bus.specs.Agrees.{Serves}
+use Rattle.spur_bus.specs.Agrees.{AgreesWithMemory}
 use Rattle.spur_bus.proofs.BoardFacts.{lines_here}
 use Rattle.spur_bus.proofs.CallFacts.{frame_room}
 use Rattle.spur_bus.proofs.TestFacts.{cleared}
@@ -25,5 +25,5 @@ returns-then-is_owner g c =
     let there = ap (λ (ls : List (Option Line)). found ls c.args.at)
     (lines_here lines_of c.args.boards.now c.args.b c.index-boards-b.result c.requires.own ∙ ap lines_of (sym c.index-boards-b.is) ∙ sym c.cache.ensures.lines)
     ∙ sym c.find.ensures ∙ ap option_copied c.in-Some.is in
-    subst (λ (m : List ℕ). Serves (map lines_of c.args.boards.now) m) (sym c.write_block.ensures)
+    subst (λ (m : List ℕ). AgreesWithMemory (map lines_of c.args.boards.now) m) (sym c.write_block.ensures)
     (cleared (map lines_of c.args.boards.now) c.args.phys.now (replicate 8 0) c.args.b c.args.at c.in-Some.line.now c.requires.agree c.requires.serves within there (sym c.is_owner.ensures ∙ c.if-is_owner.true))

@@ -7,7 +7,7 @@ use Rattle.spur_cache.specs.declared.line.Line.{Line}
 use Rattle.spur_cache.specs.Lines.{found, with_word, word_in}
 use Rattle.spur_bus.proofs.BoardFacts.{lines_here}
 use Rattle.spur_walk.proofs.TableFacts.{entry_readable}
-use Rattle.spur_pager.specs.Changes.{changed}
+use Rattle.spur_pager.specs.Changes.{changed_word}
 use Rattle.spur_pager.proofs.ChangeFacts.{all_changed, ready_there, ready_word, room_left, written_boards}
 use Rattle.spur_bus.proofs.LensFacts.{only_lines-then, only_lines-set}
 use Rattle.spur_pager.proofs.entry.change_entry.Goals as goal
@@ -55,7 +55,7 @@ returns-clause-changes g c =
     let own = lines_here lines_of news c.args.b c.index-boards-b.result here ∙ sym c.cache.ensures.lines in
     let read = c.entry_here-entry.ensures ∙ ap (λ (ls : List (Option Line)). word_in (found ls at) at) (sym own)
     ∙ ready_word (map lines_of news) c.fetch.new.phys c.args.b c.args.page c.fetch.ensures.fetches.leads.walk within_new c.requires.user c.fetch.ensures.fetches.fetch.ready in
-    let word = c.word.ensures.value ∙ c.changed.ensures ∙ ap (changed c.args.change) read in
+    let word = c.word.ensures.value ∙ c.changed.ensures ∙ ap (changed_word c.args.change) read in
     let caches = written_boards lines_of g.T.HasCache.lens.with_lines g.met.T.HasCache.lawful.set news c.args.b c.args.page c.pte_of.result c.word.result c.index-boards-b-2.result c.set_line_word.new.self here c.pte_of.ensures.value c.set_line_word.ensures in
     all_changed c.args.b c.args.page c.args.change (record { caches = map lines_of c.args.boards.now; memory = c.args.phys.now }) (record { caches = map lines_of news; memory = c.fetch.new.phys })
     (record { caches = map lines_of (slice_set news c.args.b c.set_line_word.new.self); memory = c.fetch.new.phys }) c.args.history.now c.fetch.new.history c.append.new.self c.word.result c.entry_for.result within c.requires.user

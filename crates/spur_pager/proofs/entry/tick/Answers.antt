@@ -12,7 +12,7 @@ use Rattle.spur_flat.specs.Pager.{word_of}
 use Rattle.spur_walk.specs.Tables.{logical_flat}
 use Rattle.spur_walk.proofs.StepFacts.{same_flat}
 use Rattle.spur_pager.specs.declared.change.Change.{Change}
-use Rattle.spur_pager.specs.Changes.{changed, clock_change, entry_for}
+use Rattle.spur_pager.specs.Changes.{changed_word, clock_change, entry_for}
 use Rattle.spur_pager.proofs.ChangeFacts.{all_changed, ready_there, ready_word, room_left, written_boards}
 use Rattle.spur_bus.proofs.LensFacts.{only_lines-then, only_lines-set}
 use Rattle.spur_pager.proofs.entry.tick.Goals as goal
@@ -62,7 +62,7 @@ returns-clause-changes g c =
     ∙ ready_word (map lines_of news) c.fetch.new.phys c.args.b c.args.page c.fetch.ensures.fetches.leads.walk within_new c.requires.user c.fetch.ensures.fetches.fetch.ready in
     let before = read ∙ ap (λ (F : Flat). word_of F c.args.page) (same_flat (map lines_of c.args.boards.now) (map lines_of news) c.args.phys.now c.fetch.new.phys c.fetch.ensures.fetches.leads.logical) in
     let change = c.clock_change-change.ensures.change ∙ ap clock_change before in
-    let word = c.word.ensures.value ∙ c.changed.ensures ∙ ap (λ (k : Change). changed k c.entry_here-entry.result) change ∙ ap (changed (clock_change (word_of (logical_flat (map lines_of c.args.boards.now) c.args.phys.now) c.args.page))) read in
+    let word = c.word.ensures.value ∙ c.changed.ensures ∙ ap (λ (k : Change). changed_word k c.entry_here-entry.result) change ∙ ap (changed_word (clock_change (word_of (logical_flat (map lines_of c.args.boards.now) c.args.phys.now) c.args.page))) read in
     let caches = written_boards lines_of g.T.HasCache.lens.with_lines g.met.T.HasCache.lawful.set news c.args.b c.args.page c.pte_of.result c.word.result c.index-boards-b-2.result c.set_line_word.new.self here c.pte_of.ensures.value c.set_line_word.ensures in
     all_changed c.args.b c.args.page (clock_change (word_of (logical_flat (map lines_of c.args.boards.now) c.args.phys.now) c.args.page)) (record { caches = map lines_of c.args.boards.now; memory = c.args.phys.now }) (record { caches = map lines_of news; memory = c.fetch.new.phys })
     (record { caches = map lines_of (slice_set news c.args.b c.set_line_word.new.self); memory = c.fetch.new.phys }) c.args.history.now c.fetch.new.history c.append.new.self c.word.result c.entry_for.result within c.requires.user

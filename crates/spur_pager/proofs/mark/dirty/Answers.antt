@@ -2,7 +2,7 @@ use Rattle.std.proofs.Common.{ℕ, [], ◌∷◌, ◌<◌, map, subst, sym}
 use Rattle.std.proofs.lemmas.List.{length-map}
 use Rattle.spur_pager.specs.declared.change.Change.TheVariants.{Dirty}
 use Rattle.spur_pager.specs.Acts.{Writes}
-use Rattle.spur_pager.specs.Changes.{changed, entry_for}
+use Rattle.spur_pager.specs.Changes.{changed_word, entry_for}
 use Rattle.spur_pager.specs.Marks.{IsMarked, MayMark}
 use Rattle.spur_pager.specs.Runs.{Runs}
 use Rattle.spur_pager.specs.View.{View, seen, view_of}
@@ -19,6 +19,6 @@ pub returns-clause-serves : goal.returns-clause-serves
 returns-clause-serves g c =
     let w : View = seen g.B.Backing.meaning g.T.HasCache.lens c.args.boards.now c.args.store.now in
     let v : View = seen g.B.Backing.meaning g.T.HasCache.lens c.mark.new.boards c.mark.new.store in
-    let runs = subst (λ (n : ℕ). Runs c.args.b (Writes n (entry_for Dirty c.args.b n) (changed Dirty) ∷ []) w v) c.page_start.ensures c.mark.ensures.runs in
+    let runs = subst (λ (n : ℕ). Runs c.args.b (Writes n (entry_for Dirty c.args.b n) (changed_word Dirty) ∷ []) w v) c.page_start.ensures c.mark.ensures.runs in
     let marked = subst (λ (n : ℕ). IsMarked c.args.b n Dirty w v) c.page_start.ensures c.mark.ensures.marked in
     dirty_served c.args.b w v c.args.at runs marked c.mark.ensures.used c.mark.ensures.frames

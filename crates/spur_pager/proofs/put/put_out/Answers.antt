@@ -9,7 +9,7 @@ use Rattle.spur_pager.specs.declared.change.Change.TheVariants.{Out}
 use Rattle.spur_pager.specs.Changes.{Changes}
 use Rattle.spur_pager.specs.Drops.{IsUnheld}
 use Rattle.spur_pager.specs.Served.{hold_of}
-use Rattle.spur_pager.specs.Stand.{page_address}
+use Rattle.spur_addr.specs.Address.{page_address}
 use Rattle.spur_pager.specs.View.{View, seen, view_of}
 use Rattle.spur_bus.proofs.LensFacts.{only_lines-same}
 use Rattle.spur_pager.proofs.MoveFacts.{out_may}

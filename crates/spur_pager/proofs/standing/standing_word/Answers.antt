@@ -1,5 +1,5 @@
 use Rattle.std.proofs.Common.{◌∙◌, ap, map, sym}
-use Rattle.spur_pager.specs.Standing.{cached_word}
+use Rattle.spur_pager.specs.Standing.{first_cached_word}
 use Rattle.spur_pager.proofs.StandingFacts.{cached_has, memory_has, place_within, root_within}
 use Rattle.spur_pager.proofs.standing.standing_word.Goals as goal
 
@@ -15,11 +15,11 @@ pub returns-in-Some : goal.returns-in-Some
 returns-in-Some g c =
     let caches = map g.T.HasCache.lens.lines_of c.args.boards.now in
     cached_has caches c.args.phys.now c.args.page c.requires.user c.requires.walk c.requires.present c.requires.root c.in-Some.word
-    (ap (cached_word caches) (sym c.pte_of.ensures.value) ∙ sym c.cached_word.ensures ∙ c.in-Some.is)
+    (ap (first_cached_word caches) (sym c.pte_of.ensures.value) ∙ sym c.cached_word.ensures ∙ c.in-Some.is)
 
 pub returns-in-None : goal.returns-in-None
 returns-in-None g c =
     let caches = map g.T.HasCache.lens.lines_of c.args.boards.now in
     c.memory_word.ensures
     ∙ memory_has caches c.args.phys.now c.args.page c.requires.user c.requires.walk c.requires.present c.requires.root
-    (ap (cached_word caches) (sym c.pte_of.ensures.value) ∙ sym c.cached_word.ensures ∙ c.in-None.is)
+    (ap (first_cached_word caches) (sym c.pte_of.ensures.value) ∙ sym c.cached_word.ensures ∙ c.in-None.is)

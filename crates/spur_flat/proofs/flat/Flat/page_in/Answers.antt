@@ -1,7 +1,7 @@
 use Rattle.std.proofs.Common.{◌≡◌, ◌∙◌, ℕ, true, ap, subst, sym}
 use Rattle.spur_addr.specs.PageEntry.{protection_of, resident_of}
 use Rattle.spur_flat.specs.declared.flat.Flat.{Flat}
-use Rattle.spur_flat.specs.Pager.{come_in, is_free_frame, loaded, with_entry, word_of}
+use Rattle.spur_flat.specs.Pager.{come_in, is_free_frame, page_loaded, with_entry, word_of}
 use Rattle.spur_flat.specs.Validity.{IsValidFlat}
 use Rattle.spur_flat.proofs.PagerFacts.{valid-come_in}
 use Rattle.spur_flat.proofs.flat.Flat.page_in.Goals as goal
@@ -17,5 +17,5 @@ returns-clause-valid c =
     c.resident.ensures ∙ ap (resident_of frame) (c.protection.ensures ∙ ap protection_of had) in
     let is : c.set_entry.new.self ≡ come_in F at (word_of F at) frame =
     c.set_entry.ensures ∙ ap (λ (G : Flat). with_entry G at c.resident.result) c.load_page.ensures.change
-    ∙ ap (with_entry (loaded F at frame) at) entry in
+    ∙ ap (with_entry (page_loaded F at frame) at) entry in
     subst IsValidFlat (sym is) (valid-come_in F at frame c.requires c.judge.ensures.small c.in_ok-judge.ensures.declared free)
