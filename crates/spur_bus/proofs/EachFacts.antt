@@ -2,7 +2,7 @@
 use Rattle.std.proofs.Common.{◌≡◌, ◌≢◌, slice_get, Some, ℕ, zero, ◌+◌, ◌<◌, ◌≤◌, suc, List, [], ◌∷◌, ◌++◌, length, take, drop, get_or, refl, sym, ap, ◌∙◌, arith, add-zero, drop-cons}
 use Rattle.std.specs.Option.{option_map}
 use Rattle.std.proofs.Math.ListN.{set}
-use Rattle.std.proofs.lemmas.List.{take_more, drop-set-lt, length-take-le}
+use Rattle.std.proofs.lemmas.List.{take_all, take_more, drop-set-lt, length-take-le}
 use Rattle.std.proofs.lemmas.Grind.{take-set_at, drop_more_same}
 use Rattle.spur_flat.specs.TagLines.{each_from}
 
@@ -29,6 +29,12 @@ each_step {X} f now old i d b within_old same done left changed =
           ∙ ap (λ (zs : List X). each_from f 0 zs) (sym (take_more old i d within_old)),
       drop-set-lt (i + 1) now i b (omega arith) ∙ drop_more_same now old i left,
     )
+
+-- at the end all are changed
+pub each_done : {X : Type 0} (f : ℕ → X → X) (now old : List X) (i : ℕ) → length old ≤ i → length now ≡ length old
+    → take i now ≡ each_from f 0 (take i old) → now ≡ each_from f 0 old
+each_done {X} f now old i all same done =
+    sym (take_all i now (omega arith)) ∙ done ∙ ap (λ (xs : List X). each_from f 0 xs) (take_all i old all)
 
 pub each_same : {X : Type 0} (f h : ℕ → X → X) (k : ℕ) (xs : List X) → ((j : ℕ) (x : X) → k ≤ j → f j x ≡ h j x) → each_from f k xs ≡ each_from h k xs
 each_same f h k [] same = refl

@@ -16,7 +16,8 @@ use Rattle.spur_flat.specs.declared.entry.Entry.TheVariants.{Load, Store, Tas, F
 use Rattle.spur_flat.specs.Access.{allows, is_write, may}
 use Rattle.spur_flat.specs.Table.{entry_at, place_in, table_words, walk_of}
 use Rattle.spur_flat.specs.Validity.{IsDataFrame, IsDeclared, IsValidFlat}
-use Rattle.spur_flat.specs.Pager.{brought_entry, come_in, entry_place, gone_out, is_declared, is_free_frame, page_loaded, or_zero, page_at, position_in, swap_slot_of, with_entry, with_entry_bit, word_of}
+use Rattle.spur_addr.specs.Pages.{page_at}
+use Rattle.spur_flat.specs.Pager.{brought_entry, come_in, entry_place, gone_out, is_declared, is_free_frame, page_loaded, or_zero, position_in, swap_slot_of, with_entry, with_entry_bit, word_of}
 use Rattle.spur_flat.specs.History.{on, with_word_at}
 use Rattle.spur_flat.specs.Laws.{address_of}
 use Rattle.spur_flat.specs.Clean.{AreClean, LegalStaysClean, NoneValidIsClean, StaysClean}

@@ -2,7 +2,7 @@
 use Rattle.std.proofs.Common.{◌≡◌, ◌≢◌, ◌∙◌, ℕ, ◌+◌, ◌-◌, ◌*◌, ◌/◌, ◌<◌, ◌≤◌, ◌⊎◌, inl, inr, ⊎_elim, ap, sym, List, ◌++◌, length, take, drop, slice_index, slice_set, arith}
 use Rattle.std.proofs.lemmas.Bool.{cases_lt}
 use Rattle.std.proofs.lemmas.List.{ext_get_or, get_or-append_right, get_or-drop, get_or-take, get_or_append_left, get_or-set_other, length-append, length-set, length-take-le}
-use Rattle.spur_flat.specs.Pager.{page_at, with_page}
+use Rattle.spur_addr.specs.Pages.{page_at, with_page}
 use Rattle.spur_flat.proofs.PagerFacts.{length-with_page, page_long}
 
 -- a page that may be put in, and read again

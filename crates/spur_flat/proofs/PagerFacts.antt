@@ -298,7 +298,7 @@ loaded_same F g frame ok among k below =
     let low = among.low in
     before_part F.words (page_at F.swap (swap_slot_of F g)) frame k (omega arith) (frame_inside F frame ok among)
 
--- so a free frame may be page_loaded
+-- so a free frame may be loaded
 pub valid-loaded : (F : Flat) (g frame : ℕ) → IsValidFlat F → g < 2 ^ 38 → is_declared F g ≡ true → is_free_frame F frame ≡ true → IsValidFlat (page_loaded F g frame)
 valid-loaded F g frame ok small declared free =
     let among = (free_frame F frame free).among in

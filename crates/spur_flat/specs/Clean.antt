@@ -4,7 +4,8 @@ use Rattle.spur_addr.specs.Address.{page_address, user_pages}
 use Rattle.spur_addr.specs.PageEntry.{is_valid, is_dirty, number_of}
 use Rattle.spur_flat.specs.declared.flat.Flat.{Flat}
 use Rattle.spur_flat.specs.declared.entry.Entry.{Entry}
-use Rattle.spur_flat.specs.Pager.{page_at, swap_slot_of, word_of}
+use Rattle.spur_addr.specs.Pages.{page_at}
+use Rattle.spur_flat.specs.Pager.{swap_slot_of, word_of}
 use Rattle.spur_flat.specs.Validity.{IsValidFlat}
 use Rattle.spur_flat.specs.History.{on, flat_after, IsAllowed, IsLegal}
 use Rattle.spur_flat.specs.Laws.{address_of}

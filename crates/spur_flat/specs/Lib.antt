@@ -19,4 +19,3 @@ pub mod UntoldLaws
 pub mod StateLaws
 pub mod Ownership
 pub mod Worked
-pub mod Formed

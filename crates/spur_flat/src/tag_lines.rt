@@ -40,7 +40,7 @@ impl TagLines {
     }
 
     /// What stands on the line of a block, which may be another block.
-    pub fn standing_tag(&self, block: u64) -> Option<Tag>
+    pub fn standing(&self, block: u64) -> Option<Tag>
         ensures { result ≡ standing_tag self.now block }
     {
         self.lines[self.line_of(block)]
@@ -70,7 +70,7 @@ impl TagLines {
     {
         if let Some(tag) = self.tag(block) {
             let (state, _) = snooped(tag.state, kind);
-            self.put(block, tag_in_state(tag, state));
+            self.put(block, in_state(tag, state));
         }
     }
 
@@ -78,7 +78,7 @@ impl TagLines {
     pub fn holds(&self, page: u32) -> bool
         ensures { result ≡ holds_page page self.now }
     {
-        self.lines.iter().any(|tag| is_tag_of_page(tag, page))
+        self.lines.iter().any(|tag| is_of_page(tag, page))
     }
 
     /// The number of a block's line.
@@ -91,7 +91,7 @@ impl TagLines {
 }
 
 /// A tag in another state: nothing where that is Invalid.
-fn tag_in_state(tag: Tag, state: BlockState) -> Option<Tag>
+fn in_state(tag: Tag, state: BlockState) -> Option<Tag>
     ensures { result ≡ tag_in_state state tag }
 {
     match state {
@@ -101,7 +101,7 @@ fn tag_in_state(tag: Tag, state: BlockState) -> Option<Tag>
 }
 
 /// Whether a line holds a block of a page, which has 128 blocks.
-fn is_tag_of_page(tag: &Option<Tag>, page: u32) -> bool
+fn is_of_page(tag: &Option<Tag>, page: u32) -> bool
     ensures { result ≡ is_tag_of_page page tag.now }
 {
     match tag {

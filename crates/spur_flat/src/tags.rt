@@ -160,15 +160,15 @@ impl Tags {
                 self.transact(*board, at.block(), rules::kind(*need), Some(fresh));
             }
             Entry::Claim { board, at } => {
-                let mine = restated_tag(self.tag(*board, *at), BlockState::OwnedExclusive);
+                let mine = restated(self.tag(*board, *at), BlockState::OwnedExclusive);
                 self.transact(*board, at.block(), BusKind::Claim, mine);
             }
             Entry::WriteBack { board, at } => {
-                let mine = restated_tag(self.tag(*board, *at), BlockState::UnOwned);
+                let mine = restated(self.tag(*board, *at), BlockState::UnOwned);
                 self.transact(*board, at.block(), BusKind::WriteBack, mine);
             }
             Entry::Refresh { board, at } => {
-                let mine = dirtied_tag(self.tag(*board, *at));
+                let mine = dirtied(self.tag(*board, *at));
                 self.put(*board, at.block(), mine);
             }
             Entry::BlockFlush { holder, at, .. } => self.put(*holder, at.block(), None),
@@ -194,7 +194,7 @@ impl Tags {
     }
 
     /// What stands on a board's line of the block of an address.
-    fn standing_tag(&self, board: u32, at: GlobalAddr) -> Option<Tag>
+    fn standing(&self, board: u32, at: GlobalAddr) -> Option<Tag>
         requires { board < length self.now }
         ensures { result ≡ standing_tag (lines_at self.now board) (block_of at) }
     {
@@ -258,7 +258,7 @@ fn holder(boards: &[TagLines], page: u32) -> Option<usize>
 }
 
 /// A tag in another state that is not Invalid.
-fn restated_tag(tag: Option<Tag>, state: BlockState) -> Option<Tag>
+fn restated(tag: Option<Tag>, state: BlockState) -> Option<Tag>
     ensures { result ≡ restated_tag tag state }
 {
     match tag {
@@ -268,7 +268,7 @@ fn restated_tag(tag: Option<Tag>, state: BlockState) -> Option<Tag>
 }
 
 /// A tag with its dirty copy set.
-fn dirtied_tag(tag: Option<Tag>) -> Option<Tag>
+fn dirtied(tag: Option<Tag>) -> Option<Tag>
     ensures { result ≡ dirtied_tag tag }
 {
     match tag {

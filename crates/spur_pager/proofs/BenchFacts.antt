@@ -35,7 +35,7 @@ use Rattle.spur_pager.specs.Stand.{AreFramed, IsServable, Stands, flat_in, stand
 use Rattle.spur_flat.specs.Clean.{AreClean}
 use Rattle.spur_pager.specs.Acts.{Act}
 use Rattle.spur_pager.specs.Bench.{IsBench}
-use Rattle.spur_pager.specs.Course.{bits_in, turn_of}
+use Rattle.spur_pager.specs.Service.{bits_in, turn_of}
 use Rattle.spur_pager.specs.Room.{entry_room}
 use Rattle.spur_pager.specs.Runs.{Runs}
 use Rattle.spur_pager.specs.Served.{IsCarriedOn, HasFault, Keeps}

@@ -17,7 +17,7 @@ use Rattle.spur_walk.specs.Tables.{block_address}
 use Rattle.spur_pager.specs.View.{View}
 use Rattle.spur_pager.specs.Acts.{flushes_from, flushes_in}
 use Rattle.spur_pager.specs.Bench.{IsBench}
-use Rattle.spur_pager.specs.Course.{bits_in, turn_of, outgoing_frame}
+use Rattle.spur_pager.specs.Service.{bits_in, turn_of, outgoing_frame}
 use Rattle.spur_pager.specs.Room.{clock_room, finish_room, free_room, page_line_count, room_for}
 use Rattle.spur_pager.proofs.BenchFacts.{three_frames}
 

@@ -14,9 +14,9 @@ use Rattle.spur_flat.specs.Table.{walk_of}
 use Rattle.spur_walk.specs.Laws.{is_served}
 use Rattle.spur_pager.specs.View.{View}
 use Rattle.spur_pager.specs.Stand.{IsServable, entry_in, flat_in, standing_flat}
-use Rattle.spur_pager.specs.Course.{gained, slot_in, outgoing_frame}
+use Rattle.spur_pager.specs.Service.{gained, slot_in, outgoing_frame}
 use Rattle.spur_pager.specs.Served.{HasFault, IsServed, word_after}
-use Rattle.spur_pager.proofs.CourseFacts.{entry_at}
+use Rattle.spur_pager.proofs.ServiceFacts.{entry_at}
 use Rattle.spur_pager.proofs.FaultFacts.{answer_may}
 use Rattle.spur_pager.proofs.MarkFacts.{same_bit}
 

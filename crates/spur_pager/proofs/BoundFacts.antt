@@ -9,7 +9,7 @@ use Rattle.spur_frames.specs.Clock.{page_of_frame}
 use Rattle.spur_frames.specs.Frames.{least_free}
 use Rattle.spur_frames.proofs.ClockFacts.{cleared-are-few}
 use Rattle.spur_pager.specs.Acts.{flushes_from, flushes_in}
-use Rattle.spur_pager.specs.Course.{bits_in, turn_of, outgoing_frame}
+use Rattle.spur_pager.specs.Service.{bits_in, turn_of, outgoing_frame}
 use Rattle.spur_pager.specs.Laws.{PageLinesAreFew, RoomIsBounded}
 use Rattle.spur_pager.specs.Room.{clock_room, finish_room, free_room, page_line_count}
 use Rattle.spur_pager.specs.Stand.{IsServable}

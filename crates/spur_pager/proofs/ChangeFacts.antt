@@ -1,4 +1,4 @@
--- The entry of a page is brought, and changed_word.
+-- The entry of a page is brought, and changed.
 use Rattle.std.proofs.Common.{◌≡◌, ◌∙◌, ℕ, ◌+◌, ◌<◌, ◌≤◌, true, ap, sym, refl, subst, List, [], ◌∷◌, ◌++◌, get_or, length, map, slice_set, Option, Some, None, arith}
 use Rattle.std.specs.Prelude.{IsSome}
 use Rattle.std.proofs.Math.ListN.{set}

@@ -61,3 +61,21 @@ counts_write meaning lens olds news old new stays later = record { reads = ap (�
 -- what was written, told by what is known
 pub counts_as : (w v : View) (read wrote before : Bool) → wrote ≡ before → Counts read wrote w v → Counts read before w v
 counts_as w v read wrote before is c = subst (λ (x : Bool). Counts read x w v) is c
+
+-- the same after a write, and without one, told by what is known
+pub counts_wrote : {B : Type 0} → {X : Type 0} → {s : B} → (meaning : B → Swap) (lens : Lens X) (olds news : List X) (old new : Store B) (known : Bool) → known ≡ true
+    → new.backing ≡ s → SameButFaults (after_write (meaning old.backing) (meaning s).pages) (meaning s) → (meaning old.backing).faults ≤ (meaning s).faults
+    → Counts false known (seen meaning lens olds old) (seen meaning lens news new)
+counts_wrote {B} {X} {s} meaning lens olds news old new known is same stays later =
+    counts_as (seen meaning lens olds old) (seen meaning lens news new) false true known (sym is) (record {
+      reads = ap (λ (t : B). (meaning t).reads) same ∙ ap (λ (m : Swap). m.reads) stays;
+      writes = ap (λ (t : B). (meaning t).writes) same ∙ ap (λ (m : Swap). m.writes) stays;
+      later = subst (λ (t : B). (meaning old.backing).faults ≤ (meaning t).faults) (sym same) later;
+    })
+
+pub counts_unwritten : {B : Type 0} → {X : Type 0} → (meaning : B → Swap) (lens : Lens X) (olds news : List X) (old new : Store B) (known : Bool) → known ≡ false
+    → new.backing ≡ old.backing → Counts false known (seen meaning lens olds old) (seen meaning lens news new)
+counts_unwritten meaning lens olds news old new known is same =
+    let w : View = seen meaning lens olds old in
+    let v : View = seen meaning lens news new in
+    counts_as w v false false known (sym is) (counts_same w v (same_swap meaning lens olds news old new same))

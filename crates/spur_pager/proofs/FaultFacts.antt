@@ -23,7 +23,7 @@ use Rattle.spur_pager.specs.Acts.{Writes}
 use Rattle.spur_pager.specs.Changes.{changed_word, entry_for, entry_word}
 use Rattle.spur_pager.specs.Room.{entry_room}
 use Rattle.spur_pager.specs.Served.{HasFault, ServesAs, hold_of, word_after}
-use Rattle.spur_pager.proofs.CourseFacts.{entry_at, same_entry_address, served_as}
+use Rattle.spur_pager.proofs.ServiceFacts.{entry_at, same_entry_address, served_as}
 use Rattle.spur_pager.specs.Runs.{Runs}
 use Rattle.spur_pager.specs.Marks.{IsMarked, MayMark}
 use Rattle.spur_pager.proofs.EntryFacts.{page_again, page_user, user_page, valid_declared}

@@ -20,7 +20,7 @@ use Rattle.spur_walk.proofs.StepFacts.{same_flat}
 use Rattle.spur_pager.specs.View.{View}
 use Rattle.spur_pager.specs.Stand.{FrameHolds, IsServable, Stands, entry_in, standing_flat, standing_state, with_told}
 use Rattle.spur_pager.specs.Acts.{Act, Flushes, page_out}
-use Rattle.spur_pager.specs.Course.{finish_acts, flush_acts, frame_held, free_service, freeing, leaving_service, number_or_zero, slot_held, slot_in, turn_of, until_leaving, outgoing_by, outgoing_frame}
+use Rattle.spur_pager.specs.Service.{finish_acts, flush_acts, frame_held, free_service, freeing, leaving_service, number_or_zero, slot_held, slot_in, turn_of, until_leaving, outgoing_by, outgoing_frame}
 use Rattle.spur_pager.specs.Room.{clock_room, entry_room, free_room, page_line_count}
 use Rattle.spur_pager.specs.Runs.{Runs}
 use Rattle.spur_pager.specs.Counts.{Counts, CountsFinish, CountsOut, count_if}

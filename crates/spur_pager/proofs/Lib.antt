@@ -39,7 +39,7 @@ pub mod SlotFacts
 pub mod ReleaseFacts
 pub mod OutFacts
 pub mod ServeFacts
-pub mod CourseFacts
+pub mod ServiceFacts
 pub mod AgainFacts
 pub mod BitFacts
 pub mod FewerFacts

@@ -15,7 +15,7 @@ use Rattle.spur_pager.specs.declared.change.Change.TheVariants.{Unreferenced, Le
 use Rattle.spur_pager.specs.View.{View}
 use Rattle.spur_pager.specs.Stand.{AreFramed, FrameHolds, Stands, entry_in, standing_flat}
 use Rattle.spur_pager.specs.Changes.{Changes, MayChange, changed_word, clock_change, entry_for, entry_word}
-use Rattle.spur_pager.specs.Course.{bits_in}
+use Rattle.spur_pager.specs.Service.{bits_in}
 use Rattle.spur_pager.specs.Served.{hold_of}
 use Rattle.spur_walk.specs.Bounds.{page_steps_left}
 use Rattle.spur_walk.proofs.BoundFacts.{page-few}

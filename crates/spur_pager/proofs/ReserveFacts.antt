@@ -13,7 +13,7 @@ use Rattle.spur_walk.proofs.BoundFacts.{steps-few}
 use Rattle.spur_walk.proofs.StepFacts.{same_flat}
 use Rattle.spur_pager.specs.View.{View}
 use Rattle.spur_pager.specs.Stand.{IsServable, flat_in}
-use Rattle.spur_pager.specs.Course.{outgoing_frame}
+use Rattle.spur_pager.specs.Service.{outgoing_frame}
 use Rattle.spur_pager.specs.Room.{entry_room, free_room, page_line_count, room_for}
 use Rattle.spur_pager.specs.Faults.{faults_by, faults_left, one_if_clear}
 use Rattle.spur_pager.specs.Reserve.{FaultHasRoom, MovedLeavesRoom, ServedLeavesRoom, StepsLeaveRoom, TurnRoomIsBounded, freeing_room, out_by, out_of, out_room}

@@ -81,7 +81,7 @@ pager Leaving b g mid is within user has = record { board = refl; role = refl; s
 pager (Out slot) b g mid is within user has = absurd is
 pager (In frame) b g mid is within user has = absurd is
 
--- the bit may be changed_word wherever the steps towards the entry lead
+-- the bit may be changed wherever the steps towards the entry lead
 pub mark_may : (w : View) (b g : ℕ) (change : Change) → IsMark change → ArePresent (logical_flat w.caches w.memory) w.caches → g < table_start → is_valid (entry_word (hold_of w) g) ≡ true → MayChange b g change (hold_of w)
 mark_may w b g change is present user valid fetched mid leads =
     let F : Flat = logical_flat mid.caches mid.memory in

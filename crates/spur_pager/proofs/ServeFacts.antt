@@ -27,14 +27,14 @@ use Rattle.spur_pager.specs.declared.fault.ServeFault.TheVariants as serve
 use Rattle.spur_pager.specs.View.{View}
 use Rattle.spur_pager.specs.Stand.{Stands, entry_in, standing_flat}
 use Rattle.spur_pager.specs.Acts.{Act, Loads, page_in as page_in_act}
-use Rattle.spur_pager.specs.Course.{finish_acts, flush_acts, free_service, gained, slot_in, turn_of, outgoing_by, outgoing_frame}
+use Rattle.spur_pager.specs.Service.{finish_acts, flush_acts, free_service, gained, slot_in, turn_of, outgoing_by, outgoing_frame}
 use Rattle.spur_pager.specs.Room.{entry_room, free_room, page_line_count}
 use Rattle.spur_pager.specs.Runs.{Runs}
 use Rattle.spur_pager.specs.Served.{HasFault, IsStillLeaving, ServesAs}
 use Rattle.spur_pager.specs.Finish.{FailsToFinish, FailsToFree, Finishes, Frees}
 use Rattle.spur_pager.specs.Moves.{ComesIn, HasSwapFailed, MayComeIn}
 use Rattle.spur_pager.proofs.EntryFacts.{user_page}
-use Rattle.spur_pager.proofs.CourseFacts.{entry_at, same_entry_address, served_as}
+use Rattle.spur_pager.proofs.ServiceFacts.{entry_at, same_entry_address, served_as}
 use Rattle.spur_pager.proofs.FaultFacts.{answer_may}
 use Rattle.spur_pager.proofs.FinishFacts.{failed_entry, failed_runs, released_is_free}
 use Rattle.spur_pager.proofs.JoinFacts.{runs_then}

@@ -14,7 +14,7 @@ use Rattle.spur_flat.specs.Validity.{IsDataFrame, IsDeclared, IsValidFlat}
 use Rattle.spur_flat.proofs.PagerFacts.{declared_stands, frame_inside}
 use Rattle.spur_frames.specs.Frames.{AreFrames, Frames, IsFrame, IsFree, holder_of, take_frame}
 use Rattle.spur_frames.specs.Clock.{page_held, page_of_frame}
-use Rattle.spur_pager.specs.Course.{slot_held}
+use Rattle.spur_pager.specs.Service.{slot_held}
 use Rattle.spur_pager.specs.Stand.{AreFramed, FrameHolds}
 use Rattle.spur_flat.specs.Clean.{AreClean}
 use Rattle.spur_pager.proofs.EntryFacts.{Entries, IsAbove, above, data_frame, entries, leaving_page, leaving_taken, page_again, page_user, small_user}

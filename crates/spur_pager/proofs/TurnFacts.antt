@@ -16,7 +16,7 @@ use Rattle.spur_pager.specs.View.{View}
 use Rattle.spur_pager.specs.Stand.{AreFramed, IsServable, Stands, entry_in, standing_flat}
 use Rattle.spur_addr.specs.Address.{page_address, user_pages}
 use Rattle.spur_pager.specs.Acts.{Act, clear_referenced, leave}
-use Rattle.spur_pager.specs.Course.{bits_in, clock_acts, frame_held, turn_of}
+use Rattle.spur_pager.specs.Service.{bits_in, clock_acts, frame_held, turn_of}
 use Rattle.spur_pager.specs.Room.{entry_room, page_line_count}
 use Rattle.spur_pager.specs.Runs.{Runs}
 use Rattle.spur_pager.specs.Looks.{Clears, Clocks, HasNoMoreLines, IsLooked, KeepsAbsent, Leaves, Looks}

@@ -38,11 +38,11 @@ is_small change = ⊤
 abbrev pub entry_word : Hold → ℕ → ℕ
 entry_word h g = word_of (logical_flat h.caches h.memory) g
 
--- the changed_word entry may be written wherever the steps towards it lead
+-- the changed entry may be written wherever the steps towards it lead
 abbrev pub MayChange : ℕ → ℕ → Change → Hold → Type 0
 MayChange b g change from = (fetched : List Entry) (mid : Hold) → Leads b g from fetched mid → MayWrite (logical_flat mid.caches mid.memory) mid.caches g (changed_word change (entry_word mid g))
 
--- An entry was changed_word: its block was brought, its word was written in cache b, and the entries were appended.
+-- An entry was changed: its block was brought, its word was written in cache b, and the entries were appended.
 pub record Changes (b g : ℕ) (change : Change) (from : Hold) (before : Past) (to : Hold) (after : Past) : Type 0 where
   pub fetched : List Entry
   pub mid : Hold

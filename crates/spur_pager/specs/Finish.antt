@@ -8,7 +8,7 @@ use Rattle.spur_frames.specs.Frames.{IsFree, IsTaken, least_free, release_frame}
 use Rattle.spur_frames.specs.Clock.{page_of_frame}
 use Rattle.spur_pager.specs.View.{View}
 use Rattle.spur_pager.specs.Stand.{entry_in}
-use Rattle.spur_pager.specs.Course.{finish_acts, flush_acts, free_service, gained, leaving_service, slot_in, outgoing_frame}
+use Rattle.spur_pager.specs.Service.{finish_acts, flush_acts, free_service, gained, leaving_service, slot_in, outgoing_frame}
 use Rattle.spur_pager.specs.Room.{clock_room, entry_room, free_room, page_line_count}
 use Rattle.spur_pager.specs.Runs.{Runs}
 use Rattle.spur_pager.specs.Served.{IsStillLeaving}

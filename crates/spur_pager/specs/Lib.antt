@@ -1,13 +1,11 @@
-pub mod Past
 pub mod View
 pub mod Stand
 pub mod Counts
 pub mod Bench
 pub mod Acts
-pub mod Course
+pub mod Service
 pub mod Room
 pub mod Served
-pub mod Made
 pub mod Fetch
 pub mod Writes
 pub mod Changes

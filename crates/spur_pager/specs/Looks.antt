@@ -8,7 +8,7 @@ use Rattle.spur_pager.specs.View.{View}
 use Rattle.spur_pager.specs.Stand.{entry_in}
 use Rattle.spur_addr.specs.Address.{user_pages}
 use Rattle.spur_pager.specs.Acts.{clear_referenced, leave}
-use Rattle.spur_pager.specs.Course.{bits_in, clock_acts, frame_held, turn_of}
+use Rattle.spur_pager.specs.Service.{bits_in, clock_acts, frame_held, turn_of}
 use Rattle.spur_pager.specs.Room.{entry_room, page_line_count}
 use Rattle.spur_pager.specs.Runs.{Runs}
 

@@ -35,7 +35,7 @@ pub record MayMark (w : View) (b g : ℕ) (change : Change) : Type 0 where
   pub valid : is_valid (entry_word (hold_of w) g) ≡ true
   pub allowed : (rest : Flat) → Stands rest w → IsAllowed (standing_flat rest w) (entry_for change b g)
 
--- the entry has the changed_word word, and its block is exclusive in cache b
+-- the entry has the changed word, and its block is exclusive in cache b
 pub record IsMarked (b g : ℕ) (change : Change) (w v : View) : Type 0 where
   pub word : entry_word (hold_of v) g ≡ changed_word change (entry_word (hold_of w) g)
   pub exclusive : HasLine v.caches b (entry_address_of g) is_exclusive

@@ -4,18 +4,13 @@ use Rattle.spur_addr.specs.PageEntry.{is_valid}
 use Rattle.spur_snoop.specs.Size.{IsLineCount}
 use Rattle.spur_flat.specs.declared.flat.Flat.{Flat}
 use Rattle.spur_flat.specs.Pager.{word_of}
-use Rattle.spur_flat.specs.State.{State}
-use Rattle.spur_flat.specs.TagLines.{no_tags}
+use Rattle.spur_flat.specs.State.{opening_state}
 use Rattle.spur_flat.specs.Validity.{IsValidFlat}
 use Rattle.spur_frames.specs.Frames.{new_frames}
 use Rattle.spur_pager.specs.View.{View}
 use Rattle.spur_pager.specs.Stand.{AreFramed, Stands, standing_flat, standing_state}
 use Rattle.spur_flat.specs.Clean.{AreClean}
 use Rattle.spur_addr.specs.Address.{page_address, user_pages}
-
--- the state before anything was done, with so many boards, whose caches have so many lines
-abbrev pub opening_state : ℕ → ℕ → Flat → State
-opening_state boards lines F = record { flat = F; tags = no_tags boards lines; opened = replicate boards []; lines = lines }
 
 -- The caches hold nothing, and the memory has the words of F, which is valid. The swap has a slot for each page of F, and
 -- where it tells its pages, F's.

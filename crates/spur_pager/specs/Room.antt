@@ -7,7 +7,7 @@ use Rattle.spur_frames.specs.Frames.{least_free}
 use Rattle.spur_frames.specs.Clock.{page_of_frame}
 use Rattle.spur_pager.specs.View.{View}
 use Rattle.spur_pager.specs.Acts.{flushes_from}
-use Rattle.spur_pager.specs.Course.{turn_of, outgoing_frame}
+use Rattle.spur_pager.specs.Service.{turn_of, outgoing_frame}
 
 -- for one change of a page's entry: its entry of the history, and at most four of `advance_entry`
 abbrev pub entry_room : ℕ

@@ -25,7 +25,7 @@ use Rattle.spur_pager.specs.View.{View}
 use Rattle.spur_pager.specs.Stand.{CarriesOn, Stands, entry_in, flat_in}
 use Rattle.spur_pager.specs.Counts.{Counts}
 use Rattle.spur_pager.specs.Acts.{Hold, IsDone}
-use Rattle.spur_pager.specs.Course.{service_of, gained, slot_in, outgoing_frame}
+use Rattle.spur_pager.specs.Service.{service_of, gained, slot_in, outgoing_frame}
 use Rattle.spur_pager.specs.Room.{page_line_count, room_for}
 
 -- `advance` of board b for the access to the word at `at` answers this fault, as things stand

@@ -1,6 +1,7 @@
 -- What the pager needs of the state that stands, and keeps: beside what the walk needs, what is said of present pages, of
 -- frames and of clean pages.
 use Rattle.std.specs.Prelude.{ℕ, ◌≡◌, ◌+◌, ◌*◌, ◌^◌, ◌<◌, true, false, List, [], replicate, length, Option, Some, None}
+use Rattle.spur_addr.specs.Address.{page_address, user_pages}
 use Rattle.spur_addr.specs.PageEntry.{is_valid, is_dirty, is_leaving, number_of}
 use Rattle.spur_flat.specs.declared.flat.Flat.{Flat}
 use Rattle.spur_flat.specs.declared.entry.Entry.{Entry}
@@ -8,6 +9,7 @@ use Rattle.spur_flat.specs.Pager.{position_in, swap_slot_of, word_of}
 use Rattle.spur_addr.specs.Pages.{page_at}
 use Rattle.spur_flat.specs.State.{State, IsCarried}
 use Rattle.spur_flat.specs.Untold.{IsCarriedUntold}
+use Rattle.spur_flat.specs.Clean.{AreClean}
 use Rattle.spur_flat.specs.Validity.{IsDeclared, IsValidFlat}
 use Rattle.spur_bus.specs.Stand.{flat_of, state_of}
 use Rattle.spur_frames.specs.Frames.{Frames, IsFrame, holder_of}
@@ -15,13 +17,6 @@ use Rattle.spur_frames.specs.Clock.{page_of_frame}
 use Rattle.spur_walk.specs.Tables.{logical_flat}
 use Rattle.spur_walk.specs.Present.{ArePresent, MayWalk}
 use Rattle.spur_pager.specs.View.{View}
-
--- the first byte of a page, and how many pages there are below segment 255
-abbrev pub page_address : ℕ → ℕ
-page_address page = page * 2 ^ 12
-
-abbrev pub user_pages : ℕ
-user_pages = 255 * 2 ^ 18
 
 -- the words of all entries, in the logical memory
 abbrev pub flat_in : View → Flat
@@ -64,11 +59,6 @@ pub record AreFramed (F : Flat) (frames : Frames) : Type 0 where
   pub leaving : (frame : ℕ) → frames.leaving ≡ Some frame → is_leaving (word_of F (page_address (page_of_frame frames frame))) ≡ true
   pub leaves : (page : ℕ) → page < user_pages → is_valid (word_of F (page_address page)) ≡ true → is_leaving (word_of F (page_address page)) ≡ true
       → frames.leaving ≡ Some (number_of (word_of F (page_address page)))
-
--- each valid page that is not dirty has the words of its slot
-abbrev pub AreClean : Flat → Type 0
-AreClean F = (page : ℕ) → page < user_pages → is_valid (word_of F (page_address page)) ≡ true → is_dirty (word_of F (page_address page)) ≡ false
-    → page_at F.words (number_of (word_of F (page_address page))) ≡ page_at F.swap (swap_slot_of F (page_address page))
 
 -- All of this, with the declared pages of `rest`. That clean pages have the words of their slots is said where the swap
 -- object tells its pages.

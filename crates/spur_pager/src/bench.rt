@@ -13,12 +13,11 @@ ghost use Rattle.spur_pager.specs.View.{seen, view_of};
 
 use crate::clock::run_clock;
 use crate::fault::ServeFault;
-use crate::history::History;
 use crate::serving::serve;
 use crate::store::Store;
 use spur_addr::{GlobalAddr, Pte, pte_of};
 use spur_cache::{Cache, HasCache};
-use spur_flat::FaultKind;
+use spur_flat::{FaultKind, History};
 use spur_frames::FrameTable;
 use spur_phys::Phys;
 use spur_snoop::{BlockState, Need};

@@ -1,4 +1,4 @@
-//! What may be changed_word in the entry of a page.
+//! What may be changed in the entry of a page.
 
 ghost use Rattle.std.specs.Prelude.{◌≡◌, ◌<◌, ◌^◌};
 ghost use Rattle.spur_pager.specs.Changes.{changed_word, entry_for, is_small};
@@ -24,7 +24,7 @@ pub enum Change {
 }
 
 /// The entry after a change.
-pub(crate) fn changed_word(entry: Pte, change: Change) -> Pte
+pub(crate) fn changed(entry: Pte, change: Change) -> Pte
     requires { is_small change }
     ensures { result ≡ changed_word change entry }
 {

@@ -3,7 +3,7 @@
 ghost use Rattle.std.specs.Prelude.{◌≡◌, ◌<◌, ◌≤◌, ◌+◌, ◌*◌, IsSome, None, length};
 ghost use Rattle.spur_cache.specs.Lens.{OnlyLines};
 ghost use Rattle.spur_frames.specs.Frames.{looked_at};
-ghost use Rattle.spur_pager.specs.Course.{turn_of};
+ghost use Rattle.spur_pager.specs.Service.{turn_of};
 ghost use Rattle.spur_pager.specs.Looks.{Clocks, Looks};
 ghost use Rattle.spur_pager.specs.Room.{entry_room};
 ghost use Rattle.spur_pager.specs.Stand.{IsServable};

@@ -14,9 +14,9 @@ ghost use Rattle.spur_pager.specs.Changes.{Changes, MayChange, clock_change, is_
 ghost use Rattle.spur_pager.specs.Fetch.{Fetches};
 
 use crate::change::{Change, changed, entry_for};
-use crate::history::History;
 use spur_addr::{GlobalAddr, Pte, pte_of};
 use spur_cache::{Cache, HasCache};
+use spur_flat::History;
 use spur_phys::Phys;
 use spur_walk::{Walked, advance_entry};
 

@@ -18,7 +18,6 @@ mod entry;
 mod fault;
 mod finish;
 mod flush;
-mod history;
 mod laws;
 mod mark;
 mod missing;
@@ -34,7 +33,6 @@ mod tests;
 mod turn_laws;
 
 pub use fault::ServeFault;
-pub use history::History;
 pub use laws::room_is_bounded;
 pub use serving::serve;
 pub use store::Store;

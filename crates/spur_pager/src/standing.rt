@@ -36,14 +36,14 @@ fn standing_word<T: HasCache>(boards: &[T], phys: &Phys, page: GlobalAddr) -> u3
     requires root { is_valid (root_at (logical_flat (caches T.lens boards.now) phys.now) page) ≡ true }
     ensures { result ≡ word_of (logical_flat (caches T.lens boards.now) phys.now) page }
 {
-    match first_cached_word(boards, pte_of(page)) {
+    match cached_word(boards, pte_of(page)) {
         Some(word) => word,
         None => memory_word(phys, page),
     }
 }
 
 /// The word at `at` in the first cache that has its block.
-fn first_cached_word<T: HasCache>(boards: &[T], at: GlobalAddr) -> Option<u32>
+fn cached_word<T: HasCache>(boards: &[T], at: GlobalAddr) -> Option<u32>
     ensures { result ≡ first_cached_word (caches T.lens boards.now) at }
 {
     for board in boards {

@@ -1,6 +1,6 @@
 //! What the boards share.
 
-use crate::history::History;
+use spur_flat::History;
 use spur_frames::FrameTable;
 use spur_phys::Phys;
 

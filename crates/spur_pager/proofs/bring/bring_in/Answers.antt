@@ -8,6 +8,7 @@ use Rattle.spur_pager.specs.Acts.{loaded_hold}
 use Rattle.spur_pager.specs.Changes.{Changes, MayChange}
 use Rattle.spur_pager.specs.Served.{hold_of}
 use Rattle.spur_pager.specs.View.{View, seen, view_of}
+use Rattle.spur_pager.proofs.CountFacts.{counts_read}
 use Rattle.spur_pager.proofs.ComeFacts.{changes_may, comes, frame_room, root, slot_small, walk}
 use Rattle.spur_bus.proofs.LensFacts.{only_lines-same}
 use Rattle.spur_pager.proofs.RunFacts.{past_of}
@@ -72,7 +73,11 @@ returns-clause-brought g c =
     comes w c.args.b c.args.frame c.args.page c.args.slot c.requires.may l.words l.long v rest st c.take.ensures.taken c.frames.ensures.table (ap (λ s. s.pages) c.load_page.ensures.stays) (ap (λ s. s.slots) c.load_page.ensures.stays) refl l.told changes
 
 pub returns-in_err-load_page-clause-counts : goal.returns-in_err-load_page-clause-counts
-returns-in_err-load_page-clause-counts g c = ?
+returns-in_err-load_page-clause-counts g c =
+    counts_read g.B.Backing.meaning g.T.HasCache.lens c.args.boards.now c.args.boards.now c.args.store.now
+    (record c.args.store.now { phys = c.load_page.new.phys; backing = c.load_page.new.backing }) c.load_page.ensures.stays c.load_page.ensures.later
 
 pub returns-clause-counts : goal.returns-clause-counts
-returns-clause-counts g c = ?
+returns-clause-counts g c =
+    let new = record { phys = c.change_entry.new.phys; frames = c.take.new.self; backing = c.load_page.new.backing; history = c.change_entry.new.history; ahead = c.args.store.now.ahead } in
+    counts_read g.B.Backing.meaning g.T.HasCache.lens c.args.boards.now c.change_entry.new.boards c.args.store.now new c.load_page.ensures.stays c.load_page.ensures.later

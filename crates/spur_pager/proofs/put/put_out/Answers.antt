@@ -1,4 +1,4 @@
-use Rattle.std.proofs.Common.{◌∙◌, ◌≤◌, ◌*◌, arith, ℕ, Bool, true, false, ◌≡◌, ap, map, subst, sym}
+use Rattle.std.proofs.Common.{◌∙◌, ◌≤◌, ◌*◌, arith, ℕ, Bool, true, false, ◌≡◌, ap, map, refl, subst, sym}
 use Rattle.spur_addr.specs.PageEntry.{is_dirty}
 use Rattle.spur_flat.specs.Pager.{word_of}
 use Rattle.spur_frames.specs.Frames.{IsTaken, release_frame}
@@ -10,8 +10,10 @@ use Rattle.spur_pager.specs.Changes.{Changes}
 use Rattle.spur_pager.specs.Drops.{IsUnheld}
 use Rattle.spur_pager.specs.Served.{hold_of}
 use Rattle.spur_addr.specs.Address.{page_address}
+use Rattle.spur_pager.specs.Stand.{entry_in}
 use Rattle.spur_pager.specs.View.{View, seen, view_of}
 use Rattle.spur_bus.proofs.LensFacts.{only_lines-same}
+use Rattle.spur_pager.proofs.CountFacts.{counts_unwritten, counts_wrote}
 use Rattle.spur_pager.proofs.MoveFacts.{out_may}
 use Rattle.spur_pager.proofs.OutFacts.{frame_within, goes_out, slot_small, slot_within, taken, told_if}
 use Rattle.spur_pager.proofs.RunFacts.{past_of}
@@ -109,7 +111,24 @@ returns-clause-unwritten g c clean =
     both_ways false h k = cc
 
 pub returns-in_err-save_page-clause-counts : goal.returns-in_err-save_page-clause-counts
-returns-in_err-save_page-clause-counts g c = ?
+returns-in_err-save_page-clause-counts g c =
+    let w : View = seen g.B.Backing.meaning g.T.HasCache.lens c.args.boards.now c.args.store.now in
+    let word = c.standing_entry.ensures ∙ ap (λ (n : ℕ). word_of (logical_flat w.caches w.memory) n) c.page_address-at.ensures in
+    let known = sym (c.dirty.ensures ∙ ap (λ (e : ℕ). is_dirty e) word) ∙ c.if-dirty.true in
+    counts_wrote g.B.Backing.meaning g.T.HasCache.lens c.args.boards.now c.args.boards.now c.args.store.now
+    (record c.args.store.now { backing = c.save_page.new.backing }) (is_dirty (entry_in w c.args.page)) known refl c.save_page.ensures.stays c.save_page.ensures.later
 
 pub returns-clause-counts : goal.returns-clause-counts
-returns-clause-counts g c = ?
+returns-clause-counts g c =
+    let w : View = seen g.B.Backing.meaning g.T.HasCache.lens c.args.boards.now c.args.store.now in
+    let word = c.standing_entry.ensures ∙ ap (λ (n : ℕ). word_of (logical_flat w.caches w.memory) n) c.page_address-at.ensures in
+    let known = sym (c.dirty.ensures ∙ ap (λ (e : ℕ). is_dirty e) word) in
+    let new = record { phys = c.change_entry.new.phys; frames = c.release.new.self; backing = c.if-dirty.store.backing; history = c.change_entry.new.history; ahead = c.if-dirty.store.ahead } in
+    elim c.if-dirty.branch [
+      | then-dirty+in_ok-save_page x ↦
+          counts_wrote g.B.Backing.meaning g.T.HasCache.lens c.args.boards.now c.change_entry.new.boards c.args.store.now new (is_dirty (entry_in w c.args.page))
+          (known ∙ x.if-dirty.true) (ap (λ s. s.backing) x.store-is) x.in_ok-save_page.ensures.stays x.in_ok-save_page.ensures.later
+      | else-dirty x ↦
+          counts_unwritten g.B.Backing.meaning g.T.HasCache.lens c.args.boards.now c.change_entry.new.boards c.args.store.now new (is_dirty (entry_in w c.args.page))
+          (known ∙ x.if-dirty.false) (ap (λ s. s.backing) x.store-is)
+    ]

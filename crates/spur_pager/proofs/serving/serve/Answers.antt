@@ -2,7 +2,7 @@ use Rattle.std.proofs.Common.{map, subst, sym}
 use Rattle.spur_flat.specs.declared.access.FaultKind.{FaultKind}
 use Rattle.spur_pager.specs.Served.{Leaves, StaysFor}
 use Rattle.spur_pager.specs.View.{View, seen, view_of}
-use Rattle.spur_pager.proofs.CourseFacts.{leaves_err, leaves_ok}
+use Rattle.spur_pager.proofs.ServiceFacts.{leaves_err, leaves_ok}
 use Rattle.spur_pager.proofs.serving.serve.Goals as goal
 
 pub returns-in-Leaving-clause-ok : goal.returns-in-Leaving-clause-ok

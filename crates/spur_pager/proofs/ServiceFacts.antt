@@ -18,7 +18,7 @@ use Rattle.spur_flat.specs.Formed.{IsMade}
 use Rattle.spur_pager.specs.View.{View}
 use Rattle.spur_pager.specs.Stand.{AreCarried, Stands, entry_in, flat_in}
 use Rattle.spur_pager.specs.Acts.{Act, IsDone}
-use Rattle.spur_pager.specs.Course.{service_of, free_service, freeing, gained, leaving_service, until_leaving, outgoing_frame}
+use Rattle.spur_pager.specs.Service.{service_of, free_service, freeing, gained, leaving_service, until_leaving, outgoing_frame}
 use Rattle.spur_pager.specs.Room.{room_for}
 use Rattle.spur_pager.specs.Runs.{Runs}
 use Rattle.spur_pager.specs.Served.{HasFailed, IsServed, Leaves, ServesAs, appended, hold_of}

@@ -1,4 +1,4 @@
--- What serving a fault comes to: the acts, and the frame table acts_then them.
+-- What serving a fault comes to: the acts, and the frame table after them.
 use Rattle.std.specs.Prelude.{ℕ, ◌&&◌, nat_lt, Bool, List, [], ◌∷◌, ◌++◌, map, Option, Some, None, Result, Ok, Err}
 use Rattle.spur_addr.specs.Address.{page_of, user_pages}
 use Rattle.spur_addr.specs.PageEntry.{is_referenced, number_of}
@@ -13,12 +13,12 @@ use Rattle.spur_pager.specs.View.{View}
 use Rattle.spur_pager.specs.Stand.{entry_in}
 use Rattle.spur_pager.specs.Acts.{Act, Flushes, Loads, clear_referenced, leave, page_in, page_out, set_dirty, set_referenced}
 
--- acts, and the frame table acts_then them
+-- acts, and the frame table after them
 pub record Service : Type 0 where
   pub acts : List Act
   pub frames : Frames
 
--- one course acts_then another
+-- first these acts, then a service
 abbrev pub acts_then : List Act → Service → Service
 acts_then acts next = record next { acts = acts ++ next.acts }
 
@@ -102,7 +102,7 @@ abbrev pub no_service : View → Service
 no_service w = record { acts = []; frames = w.frames }
 
 -- What serving a fault of an access to the word at `at` comes to, by its answer. After a fault of the swap on writing, the
--- lines are flushed, and the page is no_service leaving; acts_then one on reading, a frame is free, and nothing was brought.
+-- lines are flushed, and the page is still leaving; after one on reading, a frame is free, and nothing was brought.
 abbrev pub service_of : ℕ → View → FaultKind → ℕ → Result (Unit {0}) ServeFault → Service
 service_of b w fault.Reference at answer = record { acts = set_referenced b (page_of at) ∷ []; frames = w.frames }
 service_of b w fault.Dirty at answer = record { acts = set_dirty b (page_of at) ∷ []; frames = w.frames }
