@@ -284,7 +284,7 @@ fn save_owned<T: HasCache>(boards: &[T], phys: &mut Phys, b: usize, at: GlobalAd
     ensures { phys.new ≡ flushed phys.old at (line_of_block (caches T.lens boards.now) b at) }
 {
     if let Some(line) = boards[b].cache().find(at) {
-        if is_owner(line.state) {
+        if line.state.is_owned() {
             put_line(phys, line, at);
         }
     }
@@ -296,16 +296,6 @@ fn put_line(phys: &mut Phys, line: &Line, at: GlobalAddr)
     ensures { phys.new ≡ written_back phys.old at (Some line.now) }
 {
     phys.write_block(line.frame, at, &line.words);
-}
-
-/// Whether a block in this state is owned.
-pub(crate) fn is_owner(state: BlockState) -> bool
-    ensures { result ≡ is_owned state }
-{
-    matches!(
-        state,
-        BlockState::OwnedNonExclusive | BlockState::OwnedExclusive
-    )
 }
 
 /// Drops a board's line of a block.

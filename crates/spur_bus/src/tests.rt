@@ -11,7 +11,6 @@ ghost use Rattle.spur_bus.specs.Boards.{line_of_block};
 ghost use Rattle.spur_bus.specs.Calls.{MayRead, line_tag};
 ghost use Rattle.spur_bus.specs.Fits.{AllFit, EachFits, fits, may_go};
 
-use crate::calls::is_owner;
 use crate::place::Place;
 use crate::{block_flush, claim, read_owned, read_shared, write_back};
 use spur_addr::{GlobalAddr, Protection};
@@ -113,7 +112,7 @@ fn may_replace(cache: &Cache, at: GlobalAddr) -> bool
     ensures { result ≡ may_go at (occupant cache.now at) }
 {
     match cache.line((at.block() % cache.lines() as u64) as u16) {
-        Some(line) => { line.tag != at.block() && !is_owner(line.state) }
+        Some(line) => { line.tag != at.block() && !line.state.is_owned() }
         None => true,
     }
 }
@@ -184,7 +183,7 @@ fn try_write_back<T: HasCache>(
     ensures agree { Agrees (caches T.lens boards.new) }
     ensures serves { AgreesWithMemory (caches T.lens boards.new) phys.new }
 {
-    if !is_owner(state(boards, b, at)) {
+    if !state(boards, b, at).is_owned() {
         return None;
     }
     Some(write_back(boards, phys, b, at))
@@ -203,7 +202,7 @@ fn try_flush<T: HasCache>(
     ensures agree { Agrees (caches T.lens boards.new) }
     ensures serves { AgreesWithMemory (caches T.lens boards.new) phys.new }
 {
-    if !is_valid(state(boards, holder, at)) {
+    if !state(boards, holder, at).is_valid() {
         return None;
     }
     Some(block_flush(boards, phys, 0, holder, at))
@@ -216,13 +215,6 @@ fn can_claim(state: BlockState) -> bool
     matches!(state, BlockState::UnOwned | BlockState::OwnedNonExclusive)
 }
 
-/// Whether a block in this state is there.
-fn is_valid(state: BlockState) -> bool
-    ensures { result ≡ is_alive state }
-{
-    state != BlockState::Invalid
-}
-
 /// Makes the memory's words of a block that a board owns zero.
 fn clear<T: HasCache>(boards: &[T], phys: &mut Phys, b: u32, at: GlobalAddr)
     requires own { b < length boards.now }
@@ -231,7 +223,7 @@ fn clear<T: HasCache>(boards: &[T], phys: &mut Phys, b: u32, at: GlobalAddr)
     ensures { AgreesWithMemory (caches T.lens boards.now) phys.new }
 {
     if let Some(line) = boards[b as usize].cache().find(at) {
-        if is_owner(line.state) {
+        if line.state.is_owned() {
             phys.write_block(line.frame, at, &[0; 8]);
         }
     }

@@ -427,16 +427,6 @@ fn make_ready<T: HasCache, B: Backing>(
     }
 }
 
-/// Whether a block in this state is owned.
-fn is_owner(state: BlockState) -> bool
-    ensures { result ≡ is_owned state }
-{
-    matches!(
-        state,
-        BlockState::OwnedNonExclusive | BlockState::OwnedExclusive
-    )
-}
-
 /// Makes the memory's words of a block that a board owns zero.
 fn clear<T: HasCache, B: Backing>(boards: &[T], store: &mut Store<B>, b: u32, at: GlobalAddr)
     requires own { b < length boards.now }
@@ -444,7 +434,7 @@ fn clear<T: HasCache, B: Backing>(boards: &[T], store: &mut Store<B>, b: u32, at
     ensures { IsBench (view_of B.meaning (caches T.lens boards.now) store.new) }
 {
     if let Some(line) = boards[b as usize].cache().find(at) {
-        if is_owner(line.state) {
+        if line.state.is_owned() {
             store.phys.write_block(line.frame, at, &[0; 8]);
         }
     }

@@ -125,7 +125,7 @@ fills_if false true l a r w d h = cc
 fills_if false false l a r w d h = cc
 
 pub fills : (e : ℕ) (need : Need) → fault_of e need ≡ None → may_fill e need ≡ true
-fills e need h = fills_if (is_valid e) (is_on_swap e) (is_leaving e) (allows e (access_of need)) (is_referenced e) (is_read need) (is_dirty e) h
+fills e need h = fills_if (is_valid e) (is_on_swap e) (is_leaving e) (allows e (access_of need)) (is_referenced e) (is_read need) (is_dirty e) (sym (fault_under-need e need) ∙ h)
 
 may_user : (F : Flat) (caches : List (List (Option Line))) (b at : ℕ) (need : Need) (o : Option FaultKind) → IsCache (get_or caches b []) → at < table_start → line_of_block caches b at ≡ None → HasBlock caches b (entry_address_of at)
     → fault_of (word_of F at) need ≡ o → MayDo F caches b at (fault_or o (filling (get_or caches b []) UserBlock need at (user_place (word_of F at))))

@@ -1,7 +1,7 @@
 -- The first step that applies, by the board's own lines and the tables.
-use Rattle.std.specs.Prelude.{ℕ, ◌&&◌, not, true, if◌then◌else◌, List, [], get_or, slice_index, IsTrue, Option, Some, None}
+use Rattle.std.specs.Prelude.{ℕ, true, if◌then◌else◌, List, [], get_or, slice_index, IsTrue, Option, Some, None}
 use Rattle.spur_addr.specs.Address.{entry_address_of, word_in_block_of}
-use Rattle.spur_addr.specs.PageEntry.{is_readable, is_valid, is_referenced, is_dirty, is_on_swap, is_leaving, number_of, protection_of}
+use Rattle.spur_addr.specs.PageEntry.{is_readable, is_valid, is_dirty, is_leaving, number_of, protection_of}
 use Rattle.spur_addr.specs.declared.page_entry.Protection.TheVariants as allow
 use Rattle.spur_cache.specs.declared.line.Line.{Line}
 use Rattle.spur_cache.specs.Lines.{found, victim_of, word_in}
@@ -13,10 +13,10 @@ use Rattle.spur_flat.specs.declared.access.FaultKind.{FaultKind}
 use Rattle.spur_flat.specs.declared.access.FaultKind.TheVariants as fault
 use Rattle.spur_flat.specs.declared.entry.Layer.{Layer}
 use Rattle.spur_flat.specs.declared.entry.Layer.TheVariants.{RootBlock, PteBlock, UserBlock}
-use Rattle.spur_flat.specs.Access.{allows}
+use Rattle.spur_flat.specs.Access.{fault_under}
 use Rattle.spur_flat.specs.Blocks.{wired_frame}
 use Rattle.spur_flat.specs.Pager.{word_of}
-use Rattle.spur_flat.specs.TagRules.{access_of, is_read}
+use Rattle.spur_flat.specs.TagRules.{access_of}
 use Rattle.spur_bus.specs.declared.place.Place.{Place}
 use Rattle.spur_walk.specs.declared.looked.Looked.{Looked}
 use Rattle.spur_walk.specs.declared.looked.Looked.TheVariants.{Hit, Denied, NeedsDirty, NeedsClaim, Miss}
@@ -44,16 +44,9 @@ fill_over (Some line) fill = if is_owned line.state then plan.WriteBack (block_a
 abbrev pub filling : List (Option Line) → Layer → Need → ℕ → Place → Plan
 filling own layer need at place = fill_over (victim_of own at) (plan.Fill layer need at place)
 
--- the fault of an access whose block is not found, by the entry of its page: the first that applies, in this order
+-- the fault of an access whose block is not found, by the entry of its page: the first that applies
 abbrev pub fault_of : ℕ → Need → Option FaultKind
-fault_of entry need =
-    if not (is_valid entry) && not (is_on_swap entry) then Some fault.Unmapped
-    else if not (is_valid entry) then Some fault.Missing
-    else if is_leaving entry then Some fault.Leaving
-    else if not (allows entry (access_of need)) then Some fault.Protection
-    else if not (is_referenced entry) then Some fault.Reference
-    else if not (is_read need) && not (is_dirty entry) then Some fault.Dirty
-    else None
+fault_of entry need = fault_under entry (access_of need)
 
 abbrev pub fault_or : Option FaultKind → Plan → Plan
 fault_or None next = next

@@ -43,7 +43,7 @@ pub fn look(cache: &Cache, at: GlobalAddr, need: Need) -> Looked
         Need::Write => {
             if !line.dirty {
                 Looked::NeedsDirty
-            } else if !matches!(line.state, BlockState::OwnedExclusive) {
+            } else if !line.state.is_exclusive() {
                 Looked::NeedsClaim
             } else {
                 Looked::Hit

@@ -4,18 +4,18 @@ ghost use Rattle.std.specs.Prelude.{◌≡◌, ◌<◌, ◌*◌, ◌^◌, IsSome
 ghost use Rattle.spur_addr.specs.Address.{entry_address_of, table_start};
 ghost use Rattle.spur_addr.specs.PageEntry.{is_readable};
 ghost use Rattle.spur_cache.specs.Lines.{IsCache};
-ghost use Rattle.spur_snoop.specs.Protocol.{is_owned};
 ghost use Rattle.spur_flat.specs.declared.entry.Layer.TheVariants as layer;
-ghost use Rattle.spur_walk.specs.Plan.{IsReadableIn, climb, dirty_plan, fault_of, filling, cached_word, own_page_plan, own_plan};
+ghost use Rattle.spur_flat.specs.TagRules.{access_of};
+ghost use Rattle.spur_walk.specs.Plan.{IsReadableIn, climb, dirty_plan, filling, cached_word, own_page_plan, own_plan};
 ghost use Rattle.spur_walk.specs.Plan.{page_climb, root_plan, table_place, table_plan, user_plan};
 ghost use Rattle.spur_walk.specs.Tables.{block_address};
 
-use crate::looked::{Looked, granted, look};
+use crate::looked::{Looked, look};
 use spur_addr::{GlobalAddr, Protection, Pte, pte_of};
 use spur_bus::Place;
 use spur_cache::Cache;
-use spur_flat::{FaultKind, Layer};
-use spur_snoop::{BlockState, Need};
+use spur_flat::{AccessKind, FaultKind, Layer, first_fault};
+use spur_snoop::Need;
 
 /// How many frames the root table has: its page `n` stands in frame `n`.
 const ROOT_FRAMES: u32 = 64;
@@ -76,7 +76,7 @@ pub(crate) fn page_step(own: &Cache, page: GlobalAddr) -> Plan
 {
     match own.find(pte_of(page)) {
         Some(line) => {
-            if matches!(line.state, BlockState::OwnedExclusive) {
+            if line.state.is_exclusive() {
                 Plan::Ready
             } else {
                 Plan::Claim
@@ -126,7 +126,7 @@ fn user_step(own: &Cache, at: GlobalAddr, need: Need, entry: Pte) -> Plan
     requires cache { IsCache own.now }
     ensures { result ≡ user_plan own.now at need entry }
 {
-    match fault(entry, need) {
+    match first_fault(entry, access(need)) {
         Some(kind) => Plan::Fault(kind),
         None => {
             let place = Place {
@@ -139,25 +139,13 @@ fn user_step(own: &Cache, at: GlobalAddr, need: Need, entry: Pte) -> Plan
     }
 }
 
-/// The fault of an access whose block is not there, by the entry of its page: the first that applies.
-/// The order is this project's profile.
-fn fault(entry: Pte, need: Need) -> Option<FaultKind>
-    ensures { result ≡ fault_of entry need }
+/// The access that stands for all of a need.
+fn access(need: Need) -> AccessKind
+    ensures { result ≡ access_of need }
 {
-    if !entry.valid() && !entry.on_swap() {
-        Some(FaultKind::Unmapped)
-    } else if !entry.valid() {
-        Some(FaultKind::Missing)
-    } else if entry.leaving() {
-        Some(FaultKind::Leaving)
-    } else if !granted(entry.protection(), need) {
-        Some(FaultKind::Protection)
-    } else if !entry.referenced() {
-        Some(FaultKind::Reference)
-    } else if !matches!(need, Need::Read) && !entry.dirty() {
-        Some(FaultKind::Dirty)
-    } else {
-        None
+    match need {
+        Need::Read => AccessKind::Load,
+        Need::Write => AccessKind::Store,
     }
 }
 
@@ -232,7 +220,7 @@ fn fill_step(own: &Cache, layer: Layer, need: Need, at: GlobalAddr, place: Place
     ensures { result ≡ filling own.now layer need at place }
 {
     match own.victim(at) {
-        Some(line) if is_owner(line.state) => Plan::WriteBack(block_start(line.tag)),
+        Some(line) if line.state.is_owned() => Plan::WriteBack(block_start(line.tag)),
         _ => Plan::Fill {
             layer,
             need,
@@ -240,16 +228,6 @@ fn fill_step(own: &Cache, layer: Layer, need: Need, at: GlobalAddr, place: Place
             place,
         },
     }
-}
-
-/// Whether a block in this state is owned.
-fn is_owner(state: BlockState) -> bool
-    ensures { result ≡ is_owned state }
-{
-    matches!(
-        state,
-        BlockState::OwnedNonExclusive | BlockState::OwnedExclusive
-    )
 }
 
 /// The first byte of the block with this number.

@@ -18,12 +18,12 @@ write_block-requires g c =
     ∙ sym c.find.ensures ∙ ap option_copied c.in-Some.is in
     frame_room (map lines_of c.args.boards.now) c.args.phys.now c.args.b c.args.at c.in-Some.line.now c.requires.serves within there
 
-pub returns-then-is_owner : goal.returns-then-is_owner
-returns-then-is_owner g c =
+pub returns-then-is_owned : goal.returns-then-is_owned
+returns-then-is_owned g c =
     let lines_of = g.T.HasCache.lens.lines_of in
     let within = subst (λ (n : ℕ). c.args.b < n) (sym (length-map c.args.boards.now lines_of)) c.requires.own in
     let there = ap (λ (ls : List (Option Line)). found ls c.args.at)
     (lines_here lines_of c.args.boards.now c.args.b c.index-boards-b.result c.requires.own ∙ ap lines_of (sym c.index-boards-b.is) ∙ sym c.cache.ensures.lines)
     ∙ sym c.find.ensures ∙ ap option_copied c.in-Some.is in
     subst (λ (m : List ℕ). AgreesWithMemory (map lines_of c.args.boards.now) m) (sym c.write_block.ensures)
-    (cleared (map lines_of c.args.boards.now) c.args.phys.now (replicate 8 0) c.args.b c.args.at c.in-Some.line.now c.requires.agree c.requires.serves within there (sym c.is_owner.ensures ∙ c.if-is_owner.true))
+    (cleared (map lines_of c.args.boards.now) c.args.phys.now (replicate 8 0) c.args.b c.args.at c.in-Some.line.now c.requires.agree c.requires.serves within there (sym c.is_owned.ensures ∙ c.if-is_owned.true))

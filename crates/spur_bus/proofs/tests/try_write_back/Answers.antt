@@ -5,4 +5,4 @@ use Rattle.spur_bus.proofs.tests.try_write_back.Goals as goal
 
 pub write_back-requires-clause-there : goal.write_back-requires-clause-there
 write_back-requires-clause-there g c = has-line (map g.T.HasCache.lens.lines_of c.args.boards.now) c.args.b c.args.at is_owned
-    refl (ap is_owned (sym c.state.ensures) ∙ sym c.is_owner.ensures ∙ c.if-not-is_owner.false)
+    refl (ap is_owned (sym c.state.ensures) ∙ sym c.is_owned.ensures ∙ c.if-not-is_owned.false)

@@ -19,8 +19,8 @@ write_block-requires g c =
     ∙ sym c.find.ensures ∙ ap option_copied c.in-Some.is in
     frame_room (map lines_of c.args.boards.now) c.args.store.now.phys c.args.b c.args.at c.in-Some.line.now c.requires.bench.stands.walk.serves within there
 
-pub returns-then-is_owner : goal.returns-then-is_owner
-returns-then-is_owner g c =
+pub returns-then-is_owned : goal.returns-then-is_owned
+returns-then-is_owned g c =
     let lines_of = g.T.HasCache.lens.lines_of in
     let within = subst (λ (n : ℕ). c.args.b < n) (sym (length-map c.args.boards.now lines_of)) c.requires.own in
     let there = ap (λ (ls : List (Option Line)). found ls c.args.at)
@@ -28,4 +28,4 @@ returns-then-is_owner g c =
     ∙ sym c.find.ensures ∙ ap option_copied c.in-Some.is in
     let w : View = seen g.B.Backing.meaning g.T.HasCache.lens c.args.boards.now c.args.store.now in
     subst (λ (m : List ℕ). IsBench (record w { memory = m })) (sym c.write_block.ensures)
-    (cleared_bench w (replicate 8 0) c.args.b c.args.at c.in-Some.line.now within there (sym c.is_owner.ensures ∙ c.if-is_owner.true) c.requires.bench)
+    (cleared_bench w (replicate 8 0) c.args.b c.args.at c.in-Some.line.now within there (sym c.is_owned.ensures ∙ c.if-is_owned.true) c.requires.bench)
