@@ -52,7 +52,7 @@ is_proved() {
 keep_note() {
     rm -f "$note"
     if [ "$1" != "$(sources_sum)" ]; then
-        echo "the sources changed while they were proved" >&2
+        echo "the sources changed while they were proved, so it is not noted that they were; prove them again" >&2
         return 1
     fi
     [ -x "$program" ] && printf '%s\n' "$1" "$(rt version)" "$(sum_of <"$program")" >"$note"
