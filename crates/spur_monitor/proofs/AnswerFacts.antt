@@ -59,7 +59,7 @@ module _ (words : List (List ℕ)) (left left_now written written_now : Option (
   fine_reports (NotRead options command taken none failed put) is = absurd cc
   fine_reports (TooLong options command taken none put) is = absurd (let e = (put_as _ _ _ status.Fine _ _ (λ x. cc) (λ x. cc) put is).0 in cc)
   fine_reports (NoForm options command text whole within says none put) is = absurd (let e = (put_as _ _ _ status.Fine _ _ (λ x. cc) (λ x. cc) put is).0 in cc)
-  fine_reports (Wanting options command none wanting put) is = absurd cc
+  fine_reports (Wanting options command taken none wanting put) is = absurd cc
   fine_reports (Ran report given holds) is =
       reports true report given (run_fine _ (put_as _ _ _ status.Fine _ _ (λ x. cc) (λ x. cc) holds.text_written is).0)
 
@@ -68,7 +68,7 @@ module _ (words : List (List ℕ)) (left left_now written written_now : Option (
   ended_reports (NotRead options command taken none failed put) is = absurd cc
   ended_reports (TooLong options command taken none put) is = absurd (let e = (put_as _ _ _ status.Ended _ _ (λ x. cc) (λ x. cc) put is).0 in cc)
   ended_reports (NoForm options command text whole within says none put) is = absurd (let e = (put_as _ _ _ status.Ended _ _ (λ x. cc) (λ x. cc) put is).0 in cc)
-  ended_reports (Wanting options command none wanting put) is = absurd cc
+  ended_reports (Wanting options command taken none wanting put) is = absurd cc
   ended_reports (Ran report given holds) is =
       reports false report given (run_ended _ (put_as _ _ _ status.Ended _ _ (λ x. cc) (λ x. cc) holds.text_written is).0)
 
@@ -78,7 +78,7 @@ module _ (words : List (List ℕ)) (left left_now written written_now : Option (
   input_refused (TooLong options command taken none put) is = Long taken (put_as _ _ _ status.Input _ _ (λ x. cc) (λ x. cc) put is).1
   input_refused (NoForm options command text whole within says none put) is =
       Formless text whole within says (put_as _ _ _ status.Input _ _ (λ x. cc) (λ x. cc) put is).1
-  input_refused (Wanting options command none wanting put) is = absurd cc
+  input_refused (Wanting options command taken none wanting put) is = absurd cc
   input_refused (Ran report given holds) is = absurd (run_no_input _ (put_as _ _ _ status.Input _ _ (λ x. cc) (λ x. cc) holds.text_written is).0)
 
   not_words : Way words left left_now written written_now outcome → (options : Options) → options_of words ≡ Ok options → outcome.status ≢ status.Words
@@ -86,7 +86,7 @@ module _ (words : List (List ℕ)) (left left_now written written_now : Option (
   not_words (NotRead options command taken none failed put) chosen fine is = absurd cc
   not_words (TooLong options command taken none put) chosen fine is = absurd (let e = (put_as _ _ _ status.Words _ _ (λ x. cc) (λ x. cc) put is).0 in cc)
   not_words (NoForm options command text whole within says none put) chosen fine is = absurd (let e = (put_as _ _ _ status.Words _ _ (λ x. cc) (λ x. cc) put is).0 in cc)
-  not_words (Wanting options command none wanting put) chosen fine is = absurd cc
+  not_words (Wanting options command taken none wanting put) chosen fine is = absurd cc
   not_words (Ran report given holds) chosen fine is = run_no_words _ (put_as _ _ _ status.Words _ _ (λ x. cc) (λ x. cc) holds.text_written is).0
 
   words_refused : (number : ℕ) → options_of words ≡ Err number → Way words left left_now written written_now outcome
@@ -97,7 +97,7 @@ module _ (words : List (List ℕ)) (left left_now written written_now : Option (
   words_refused number is (NotRead options command taken none failed put) = absurd cc
   words_refused number is (TooLong options command taken none put) = absurd cc
   words_refused number is (NoForm options command text whole within says none put) = absurd cc
-  words_refused number is (Wanting options command none wanting put) = absurd cc
+  words_refused number is (Wanting options command taken none wanting put) = absurd cc
   words_refused number is (Ran report given holds) = absurd (let command = holds.accepted_text.command in cc)
 
   words_by : (read : Result Options ℕ) → options_of words ≡ read → Way words left left_now written written_now outcome → AnswersWords read written written_now outcome
@@ -145,7 +145,7 @@ module _ (words : List (List ℕ)) (left left_now written written_now : Option (
   complete (TooLong options fine taken none put) no_read no_write text chosen unit command told within says = absurd (not_long text told within taken)
   complete (NoForm options fine other whole short nothing none put) no_read no_write text chosen unit command told within says =
       absurd (nothing unit (subst (λ (t : List ℕ). Says t unit) (sym (same_text left left_now text other told whole.given whole.end)) says))
-  complete (Wanting options fine none wanting put) no_read no_write text chosen unit command told within says = inr wanting
+  complete (Wanting options fine taken none wanting put) no_read no_write text chosen unit command told within says = inr wanting
   complete (Ran report given holds) no_read no_write text chosen unit command told within says = run_whole report given no_write holds.text_written
 
   -- ---- the report of a run whose writing failed
@@ -158,5 +158,5 @@ module _ (words : List (List ℕ)) (left left_now written written_now : Option (
   kept (TooLong options fine taken none put) is text chosen unit command told within says = absurd (not_long text told within taken)
   kept (NoForm options fine other whole short nothing none put) is text chosen unit command told within says =
       absurd (nothing unit (subst (λ (t : List ℕ). Says t unit) (sym (same_text left left_now text other told whole.given whole.end)) says))
-  kept (Wanting options fine none wanting put) is text chosen unit command told within says = absurd cc
+  kept (Wanting options fine taken none wanting put) is text chosen unit command told within says = absurd cc
   kept (Ran report given holds) is text chosen unit command told within says = subst (λ (o : Option Report). IsSome o) (sym given) refl

@@ -1,5 +1,5 @@
 -- How the ways of the top call come about.
-use Rattle.std.proofs.Common.{◌≡◌, ℕ, ◌≤◌, List, [], length, Option, Some, None, Ok, refl, sym, subst, append-nil}
+use Rattle.std.proofs.Common.{◌≡◌, ℕ, ◌≤◌, List, [], length, Option, Some, None, Ok, refl, sym, subst, append-nil, arith}
 use Rattle.spur_io.specs.Told.{Loses, IsAtEnd, Gains}
 use Rattle.spur_monitor.specs.declared.report.Outcome.{Outcome}
 use Rattle.spur_monitor.specs.declared.report.Status.{Status}
@@ -52,4 +52,4 @@ read_whole words left left_now written written_now options text outcome command 
 read_whole words left left_now written written_now options text outcome command whole within (SaysNothing says none put) =
     NoForm options command text whole within says none put
 read_whole words left left_now written written_now options text outcome command whole within (OutOfMemory none wanting put) =
-    Wanting options command none wanting put
+    Wanting options command (text, whole.given, omega (arith, within)) none wanting put

@@ -87,9 +87,9 @@ pub data Way (words : List (List ℕ)) (left left_now written written_now : Opti
   -- the input was read whole, and no unit is said by it
   NoForm : (options : Options) → options_of words ≡ Ok options → (text : List ℕ) → IsWhole left left_now text → length text ≤ input_limit → ((unit : Program) → Says text unit → ⊥)
       → outcome.report ≡ None → IsWritten not_yet_line status.Input outcome.status written written_now → Way words left left_now written written_now outcome
-  -- memory was wanting before there was a report: nothing was put
-  Wanting : (options : Options) → options_of words ≡ Ok options → outcome.report ≡ None → outcome.status ≡ status.NoMemory → Gains written written_now []
-      → Way words left left_now written written_now outcome
+  -- memory was wanting before there was a report: at most one byte more than the limit was taken, and nothing was put
+  Wanting : (options : Options) → options_of words ≡ Ok options → LosesAtMost left left_now (input_limit + 1) → outcome.report ≡ None
+      → outcome.status ≡ status.NoMemory → Gains written written_now [] → Way words left left_now written written_now outcome
   -- the text was run
   Ran : (report : Report) → outcome.report ≡ Some report → IsHeadline words left left_now written written_now outcome.status report
       → Way words left left_now written written_now outcome

@@ -21,6 +21,10 @@ const SUM: &[u8] =
 
 const THREE: &[u8] = b".board\nli r1, 7\nli r2, 9\nhalt\n";
 
+/// Two boards add 1 to the word at 64, three times each, and a lock at 0 keeps them apart.
+const LOCK: &[u8] =
+    b".page 0 0 rw\n.board\nli r2, 3\ntake: tas r1, 0(r0)\nbne r1, r0, take\nld r3, 64(r0)\naddi r3, r3, 1\nst r3, 64(r0)\nst r0, 0(r0)\naddi r2, r2, -1\nbne r2, r0, take\nhalt\n.board\nli r2, 3\ntake: tas r1, 0(r0)\nbne r1, r0, take\nld r3, 64(r0)\naddi r3, r3, 1\nst r3, 64(r0)\nst r0, 0(r0)\naddi r2, r2, -1\nbne r2, r0, take\nhalt\n";
+
 const ROWS: &[Row] = &[
     // 41 is loaded, 1 is added, and the sum is stored.
     Row {
@@ -91,6 +95,15 @@ const ROWS: &[Row] = &[
         text: b".page 0 0 ro\n.board\nld r1, 64(r0)\nst r1, 64(r0)\n.board\nhalt\n",
         status: Status::Ended,
         written: b"board 0 faulted protection 0000000040 retired 1\nregs 0 00000000 00000000 00000000 00000000 00000000 00000000 00000000 00000000 00000000 00000000 00000000 00000000 00000000 00000000 00000000 00000000\nboard 1 halted retired 1\nregs 1 00000000 00000000 00000000 00000000 00000000 00000000 00000000 00000000 00000000 00000000 00000000 00000000 00000000 00000000 00000000 00000000\n",
+    },
+    // The boards take one instruction each in turn, ascending. A board completes 26 instructions beside its failed tries, of 2 each: the
+    // first fails 0, 2 and 2 times before it takes the lock, the second 3, 2 and 2 times. They hold it in turn, so they store 1, 3
+    // and 5, and 2, 4 and 6.
+    Row {
+        words: RUN,
+        text: LOCK,
+        status: Status::Fine,
+        written: b"board 0 halted retired 34\nregs 0 00000000 00000000 00000000 00000005 00000000 00000000 00000000 00000000 00000000 00000000 00000000 00000000 00000000 00000000 00000000 00000000\nboard 1 halted retired 40\nregs 1 00000000 00000000 00000000 00000006 00000000 00000000 00000000 00000000 00000000 00000000 00000000 00000000 00000000 00000000 00000000 00000000\n",
     },
     // A text without a board, and one whose label is nowhere.
     Row {

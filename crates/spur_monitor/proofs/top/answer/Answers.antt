@@ -29,4 +29,5 @@ pub returns-in-Err-ReadFault-clause-way : goal.returns-in-Err-ReadFault-clause-w
 returns-in-Err-ReadFault-clause-way g c = NotRead c.in-Ok.options (sym c.options_of.ensures ∙ c.in-Ok.is) (search rules) (search rules) (search rules) (search rules)
 
 pub returns-in-Err-NoMemory-clause-way : goal.returns-in-Err-NoMemory-clause-way
-returns-in-Err-NoMemory-clause-way g c = Wanting c.in-Ok.options (sym c.options_of.ensures ∙ c.in-Ok.is) (search rules) (search rules) (search rules)
+returns-in-Err-NoMemory-clause-way g c =
+    Wanting c.in-Ok.options (sym c.options_of.ensures ∙ c.in-Ok.is) (search rules) (search rules) (search rules) (search rules)
