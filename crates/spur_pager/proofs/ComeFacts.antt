@@ -3,11 +3,11 @@ use Rattle.std.proofs.Common.{◌≡◌, ◌∙◌, ℕ, ◌+◌, ◌*◌, ◌/�
 use Rattle.std.proofs.Math.Seq.{take-set-lt}
 use Rattle.std.proofs.lemmas.List.{ext_get_or, get_or-take, length-set, length-take-le}
 use Rattle.spur_addr.specs.Address.{table_start, page_address}
-use Rattle.spur_addr.specs.PageEntry.{is_valid, number_of, protection_of, resident_of}
+use Rattle.spur_addr.specs.PageEntry.{is_valid, number_of}
 use Rattle.spur_flat.specs.declared.flat.Flat.{Flat}
 use Rattle.spur_flat.specs.declared.entry.Entry.{Entry}
 use Rattle.spur_flat.specs.declared.entry.Entry.TheVariants.{PageIn}
-use Rattle.spur_flat.specs.Pager.{come_in, entry_place, position_in, swap_slot_of, word_of}
+use Rattle.spur_flat.specs.Pager.{come_in, entry_place, position_in, swap_slot_of, word_of, brought_entry}
 use Rattle.spur_addr.specs.Pages.{page_at, with_page}
 use Rattle.spur_flat.specs.Table.{table_words}
 use Rattle.spur_flat.specs.Untold.{IsLike}
@@ -187,16 +187,16 @@ module _ (w : View) (b frame page slot : ℕ) (may : MayComeIn w b frame page sl
     word_from : (rest : Flat) → Stands rest w → entry_word from g ≡ word_of (standing_flat rest w) g
     word_from rest st = (same rest st).entry g user
 
-    new_words : (rest : Flat) → Stands rest w → logical_words v.caches v.memory ≡ (placed (put (standing_flat rest w) frame words) g (resident_of frame (protection_of (word_of (standing_flat rest w) g)))).words
+    new_words : (rest : Flat) → Stands rest w → logical_words v.caches v.memory ≡ (placed (put (standing_flat rest w) frame words) g (brought_entry frame (word_of (standing_flat rest w) g))).words
     new_words rest st =
         let memory : v.memory ≡ c.mid.memory = ap (λ (h : Hold). h.memory) c.to_is in
         let still : logical_flat c.mid.caches c.mid.memory ≡ logical_flat w.caches now = same_flat w.caches c.mid.caches now c.mid.memory c.leads.logical in
         ap (logical_words v.caches) memory ∙ c.writes.words
-        ∙ ap (λ (G : Flat). slice_set G.words (entry_place G g) (resident_of frame (protection_of (word_of G g)))) still
-        ∙ ap (λ (n : ℕ). slice_set (logical_words w.caches now) (entry_place (logical_flat w.caches now) g) (resident_of frame (protection_of n))) (word_from rest st)
-        ∙ ap (λ (ws : List ℕ). slice_set ws (entry_place (record (flat_in w) { words = ws }) g) (resident_of frame (protection_of (word_of (standing_flat rest w) g)))) (words_now rest st)
+        ∙ ap (λ (G : Flat). slice_set G.words (entry_place G g) (brought_entry frame (word_of G g))) still
+        ∙ ap (λ (n : ℕ). slice_set (logical_words w.caches now) (entry_place (logical_flat w.caches now) g) (brought_entry frame n)) (word_from rest st)
+        ∙ ap (λ (ws : List ℕ). slice_set ws (entry_place (record (flat_in w) { words = ws }) g) (brought_entry frame (word_of (standing_flat rest w) g))) (words_now rest st)
 
-    flat_is : (rest : Flat) → Stands rest w → standing_flat rest v ≡ placed (put (standing_flat rest w) frame words) g (resident_of frame (protection_of (word_of (standing_flat rest w) g)))
+    flat_is : (rest : Flat) → Stands rest w → standing_flat rest v ≡ placed (put (standing_flat rest w) frame words) g (brought_entry frame (word_of (standing_flat rest w) g))
     flat_is rest st =
         ap (λ (p : Option (List ℕ)). record (with_told rest p) { words = logical_words v.caches v.memory }) pages
         ∙ ap (λ (ws : List ℕ). record (with_told rest w.pages) { words = ws }) (new_words rest st)
@@ -213,13 +213,13 @@ module _ (w : View) (b frame page slot : ℕ) (may : MayComeIn w b frame page sl
     told_is : (rest : Flat) (ws : List ℕ) → Stands rest w → w.pages ≡ Some ws → standing_flat rest v ≡ come_in (standing_flat rest w) g (word_of (standing_flat rest w) g) frame
     told_is rest ws st is =
         flat_is rest st
-        ∙ ap (λ (p : List ℕ). placed (put (standing_flat rest w) frame p) g (resident_of frame (protection_of (word_of (standing_flat rest w) g)))) (words_are rest ws st is)
+        ∙ ap (λ (p : List ℕ). placed (put (standing_flat rest w) frame p) g (brought_entry frame (word_of (standing_flat rest w) g))) (words_are rest ws st is)
 
     -- whatever words were read, the tables are those that the entry makes
     like_is : (rest : Flat) → Stands rest w → IsLike (come_in (standing_flat rest w) g (word_of (standing_flat rest w) g) frame) (standing_flat rest v)
     like_is rest st =
         let F : Flat = standing_flat rest w in
-        let new : ℕ = resident_of frame (protection_of (word_of F g)) in
+        let new : ℕ = brought_entry frame (word_of F g) in
         let declared = swapped_declared F g st.valid user may.on_swap in
         let its : List ℕ = page_at F.swap (swap_slot_of F g) in
         let its_long : length its ≡ 1024 = page_long F.swap (swap_slot_of F g) (slot_inside F g st.valid (small_user g user) declared) in

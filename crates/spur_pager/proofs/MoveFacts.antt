@@ -1,12 +1,12 @@
 -- The entry of a page that goes out, or comes in, may be written.
 use Rattle.std.proofs.Common.{◌≡◌, ◌≢◌, ◌∙◌, ℕ, ◌<◌, true, false, ap, sym, subst, List, slice_index, Some}
 use Rattle.spur_addr.specs.Address.{page_of, table_start}
-use Rattle.spur_addr.specs.PageEntry.{is_valid, number_of, protection_of, resident_of, swapped_of}
+use Rattle.spur_addr.specs.PageEntry.{is_valid, number_of, protection_of, swapped_of}
 use Rattle.spur_addr.proofs.EntryFacts.{is_valid-swapped, number_of-resident, resident_readable, swapped_readable}
 use Rattle.spur_cache.specs.declared.line.Line.{Line}
 use Rattle.spur_flat.specs.declared.flat.Flat.{Flat}
 use Rattle.spur_flat.specs.declared.entry.Entry.{Entry}
-use Rattle.spur_flat.specs.Pager.{word_of}
+use Rattle.spur_flat.specs.Pager.{word_of, brought_entry}
 use Rattle.spur_bus.specs.Boards.{line_in}
 use Rattle.spur_walk.specs.Present.{ArePresent}
 use Rattle.spur_walk.specs.Tables.{IsPageFrame, block_address, logical_flat, user_roots}
@@ -61,7 +61,7 @@ pub in_may : (b g frame : ℕ) (from : Hold) → IsUnheld from g → IsSpare (lo
 in_may b g frame from un spare fetched mid leads =
     let F : Flat = logical_flat mid.caches mid.memory in
     let still = unheld_still b g from mid fetched leads un in
-    let new : ℕ = resident_of frame (protection_of (entry_word mid g)) in
+    let new : ℕ = brought_entry frame (entry_word mid g) in
     let is : number_of new ≡ frame = number_of-resident frame (protection_of (entry_word mid g)) in
     let same : logical_flat from.caches from.memory ≡ F = sym (same_flat from.caches mid.caches from.memory mid.memory leads.logical) in
     let now : IsSpare F frame = subst (λ (G : Flat). IsSpare G frame) same spare in

@@ -4,7 +4,7 @@ use Rattle.std.specs.Prelude.{IsSome, Ok, Err}
 use Rattle.std.proofs.lemmas.Bool.{and_parts, not-true}
 use Rattle.std.proofs.lemmas.List.{append-nil}
 use Rattle.spur_addr.specs.Address.{entry_address_of, page_of, table_start, page_address}
-use Rattle.spur_addr.specs.PageEntry.{is_dirty, is_leaving, is_on_swap, is_valid, number_of, protection_of, resident_of, swapped_of}
+use Rattle.spur_addr.specs.PageEntry.{is_dirty, is_leaving, is_on_swap, is_valid, number_of, protection_of, swapped_of}
 use Rattle.spur_cache.specs.declared.line.Line.{Line}
 use Rattle.spur_cache.specs.Lines.{word_in}
 use Rattle.spur_flat.specs.declared.access.AccessKind.{AccessKind}
@@ -12,7 +12,7 @@ use Rattle.spur_flat.specs.declared.access.FaultKind.{FaultKind}
 use Rattle.spur_flat.specs.declared.access.FaultKind.TheVariants as fault
 use Rattle.spur_flat.specs.declared.flat.Flat.{Flat}
 use Rattle.spur_flat.specs.Access.{may_aligned}
-use Rattle.spur_flat.specs.Pager.{or_zero}
+use Rattle.spur_flat.specs.Pager.{or_zero, brought_entry}
 use Rattle.spur_flat.specs.Table.{walk_of}
 use Rattle.spur_snoop.specs.Protocol.{is_exclusive}
 use Rattle.spur_bus.specs.Boards.{line_of_block}
@@ -172,8 +172,8 @@ missing_served b w u v at frame slot user e number f c =
     let page : ℕ = page_of at in
     let small = user_page at user in
     let same = f.absent page small e.absent in
-    let word : entry_in v page ≡ resident_of (gained b w) (protection_of (entry_in w page)) =
-    c.word ∙ ap (λ (n : ℕ). resident_of frame (protection_of n)) same ∙ ap (λ (n : ℕ). resident_of n (protection_of (entry_in w page))) f.is in
+    let word : entry_in v page ≡ brought_entry (gained b w) (entry_in w page) =
+    c.word ∙ ap (λ (n : ℕ). brought_entry frame n) same ∙ ap (λ (n : ℕ). brought_entry n (entry_in w page)) f.is in
     served_as b w v fault.Missing at (Ok (tt {0}))
     (subst (λ (n : ℕ). Runs b ((free_service b w).acts ++ Loads n ∷ page_in_act b page n ∷ []) w v) f.is (runs_then b (free_service b w).acts (Loads frame ∷ page_in_act b page frame ∷ []) w u v f.runs c.runs))
     (sum (free_room w (least_free w.frames)) w.room u.room v.room f.room c.room)

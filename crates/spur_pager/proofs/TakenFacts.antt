@@ -5,10 +5,10 @@ use Rattle.std.specs.Prelude.{IsSome}
 use Rattle.std.proofs.lemmas.Bool.{cases_eq, false≢true}
 use Rattle.std.proofs.lemmas.List.{get_or-set_other, get_or-set_same, length-set}
 use Rattle.spur_addr.specs.Address.{page_of, table_start, page_address, user_pages}
-use Rattle.spur_addr.specs.PageEntry.{is_dirty, is_leaving, is_on_swap, is_valid, number_of, protection_of, resident_of}
+use Rattle.spur_addr.specs.PageEntry.{is_dirty, is_leaving, is_on_swap, is_valid, number_of, protection_of}
 use Rattle.spur_addr.proofs.EntryFacts.{is_leaving-resident, is_valid-resident, number_of-resident}
 use Rattle.spur_flat.specs.declared.flat.Flat.{Flat}
-use Rattle.spur_flat.specs.Pager.{is_declared, position_in, swap_slot_of, word_of}
+use Rattle.spur_flat.specs.Pager.{is_declared, position_in, swap_slot_of, word_of, brought_entry}
 use Rattle.spur_addr.specs.Pages.{page_at}
 use Rattle.spur_flat.specs.Validity.{IsDataFrame, IsDeclared, IsValidFlat}
 use Rattle.spur_flat.proofs.PagerFacts.{declared_stands, frame_inside}
@@ -66,7 +66,7 @@ module _ (F : Flat) (frames : Frames) (frame page : ℕ) (words : List ℕ) (lon
   g = page_address page
 
   abbrev pub new : ℕ
-  new = resident_of frame (protection_of (word_of F (page_address page)))
+  new = brought_entry frame (word_of F (page_address page))
 
   abbrev pub now : Flat
   now = placed (put F frame words) (page_address page) new

@@ -1,14 +1,14 @@
 -- What the pager does, act by act, and the entries that each act appends.
 use Rattle.std.specs.Prelude.{ℕ, ◌≡◌, ◌+◌, ◌*◌, true, false, if◌then◌else◌, List, [], ◌∷◌, ◌++◌, get_or, length, map, slice_set, Option, Some, None}
 use Rattle.spur_addr.specs.Address.{entry_address_of, page_address}
-use Rattle.spur_addr.specs.PageEntry.{protection_of, resident_of, swapped_of, with_bit}
+use Rattle.spur_addr.specs.PageEntry.{protection_of, swapped_of, with_bit}
 use Rattle.spur_cache.specs.declared.line.Line.{Line}
 use Rattle.spur_cache.specs.Lens.{Lens, caches}
 use Rattle.spur_cache.specs.Lines.{is_of_page, with_word}
 use Rattle.spur_addr.specs.Pages.{with_page}
 use Rattle.spur_flat.specs.declared.entry.Entry.{Entry}
 use Rattle.spur_flat.specs.declared.entry.Entry.TheVariants.{BlockFlush, Leave, PageOut, PageIn, SetRef, SetDirty, ClearRef}
-use Rattle.spur_flat.specs.Pager.{word_of}
+use Rattle.spur_flat.specs.Pager.{word_of, brought_entry}
 use Rattle.spur_bus.specs.Calls.{flushed}
 use Rattle.spur_walk.specs.declared.plan.Plan.TheVariants as plan
 use Rattle.spur_walk.specs.declared.step.Walked.TheVariants as walked
@@ -121,4 +121,4 @@ abbrev pub page_out : ℕ → ℕ → ℕ → Act
 page_out b page slot = Writes (page_address page) (PageOut b (page_address page)) (λ (e : ℕ). swapped_of slot (protection_of e))
 
 abbrev pub page_in : ℕ → ℕ → ℕ → Act
-page_in b page frame = Writes (page_address page) (PageIn b (page_address page) frame) (λ (e : ℕ). resident_of frame (protection_of e))
+page_in b page frame = Writes (page_address page) (PageIn b (page_address page) frame) (brought_entry frame)

@@ -1,9 +1,9 @@
 -- The six changes of a page's entry: the word after each, and its entry of the history.
 use Rattle.std.specs.Prelude.{ℕ, ◌≡◌, ◌+◌, ◌^◌, ◌<◌, ⊤, true, false, if◌then◌else◌, List, [], ◌∷◌, ◌++◌, length}
-use Rattle.spur_addr.specs.PageEntry.{is_referenced, protection_of, resident_of, swapped_of, with_bit}
+use Rattle.spur_addr.specs.PageEntry.{is_referenced, protection_of, swapped_of, with_bit}
 use Rattle.spur_flat.specs.declared.entry.Entry.{Entry}
 use Rattle.spur_flat.specs.declared.entry.Entry.TheVariants.{Leave, PageOut, PageIn, SetRef, SetDirty, ClearRef}
-use Rattle.spur_flat.specs.Pager.{word_of}
+use Rattle.spur_flat.specs.Pager.{word_of, brought_entry}
 use Rattle.spur_walk.specs.Tables.{logical_flat}
 use Rattle.spur_pager.specs.declared.change.Change.{Change}
 use Rattle.spur_pager.specs.declared.change.Change.TheVariants.{Referenced, Unreferenced, Dirty, Leaving, Out, In}
@@ -18,7 +18,7 @@ changed_word Unreferenced e = with_bit e 1 false
 changed_word Dirty e = with_bit e 2 true
 changed_word Leaving e = with_bit e 6 true
 changed_word (Out slot) e = swapped_of slot (protection_of e)
-changed_word (In frame) e = resident_of frame (protection_of e)
+changed_word (In frame) e = brought_entry frame e
 
 abbrev pub entry_for : Change → ℕ → ℕ → Entry
 entry_for Referenced b g = SetRef b g

@@ -1,7 +1,8 @@
 -- A page goes out of its frame, or comes into one.
+use Rattle.spur_flat.specs.Pager.{brought_entry}
 use Rattle.std.specs.Prelude.{ℕ, ◌≡◌, ◌≢◌, ◌+◌, ◌<◌, ◌≤◌, true, false, [], ◌∷◌, length, Some}
 use Rattle.spur_addr.specs.Address.{entry_address_of, page_address, user_pages}
-use Rattle.spur_addr.specs.PageEntry.{is_dirty, is_on_swap, is_valid, number_of, protection_of, resident_of, swapped_of}
+use Rattle.spur_addr.specs.PageEntry.{is_dirty, is_on_swap, is_valid, number_of, protection_of, swapped_of}
 use Rattle.spur_snoop.specs.Protocol.{is_exclusive}
 use Rattle.spur_bus.specs.Calls.{HasLine}
 use Rattle.spur_frames.specs.Frames.{IsFrame, IsFree, holder_of, release_frame, take_frame}
@@ -48,7 +49,7 @@ pub record ComesIn (b frame page slot : ℕ) (w v : View) : Type 0 where
   pub runs : Runs b (Loads frame ∷ page_in b page frame ∷ []) w v
   pub frames : v.frames ≡ take_frame w.frames frame page slot
   pub room : w.room ≤ v.room + entry_room
-  pub word : entry_in v page ≡ resident_of frame (protection_of (entry_in w page))
+  pub word : entry_in v page ≡ brought_entry frame (entry_in w page)
   pub exclusive : HasLine v.caches b (entry_address_of (page_address page)) is_exclusive
 
 -- The swap object failed: but for its counts of faults, of reads and of writes, all is as it was.

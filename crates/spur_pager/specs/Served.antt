@@ -2,14 +2,14 @@
 use Rattle.std.specs.Prelude.{ℕ, ◌≡◌, ◌+◌, ◌<◌, ◌≤◌, ⊤, is_none, ◌&&◌, IsSome, Bool, true, false, List, [], ◌++◌, drop, length, Option, Some, None, Result, Ok, Err}
 use Rattle.std.specs.List.{AllByRecursion}
 use Rattle.spur_addr.specs.Address.{entry_address_of, page_of}
-use Rattle.spur_addr.specs.PageEntry.{is_dirty, is_leaving, is_valid, number_of, protection_of, resident_of, swapped_of, with_bit}
+use Rattle.spur_addr.specs.PageEntry.{is_dirty, is_leaving, is_valid, number_of, protection_of, swapped_of, with_bit}
 use Rattle.spur_flat.specs.declared.access.AccessKind.{AccessKind}
 use Rattle.spur_flat.specs.declared.access.FaultKind.{FaultKind}
 use Rattle.spur_flat.specs.declared.access.FaultKind.TheVariants as fault
 use Rattle.spur_flat.specs.declared.entry.Entry.{Entry}
 use Rattle.spur_flat.specs.declared.flat.Flat.{Flat}
 use Rattle.spur_flat.specs.History.{own_entries}
-use Rattle.spur_flat.specs.Pager.{word_of}
+use Rattle.spur_flat.specs.Pager.{word_of, brought_entry}
 use Rattle.spur_snoop.specs.Protocol.{is_exclusive}
 use Rattle.spur_bus.specs.Calls.{HasLine, line_count}
 use Rattle.spur_frames.specs.Frames.{least_free}
@@ -81,7 +81,7 @@ abbrev pub word_after : ℕ → View → FaultKind → ℕ → ℕ
 word_after b w fault.Reference at = with_bit (entry_in w (page_of at)) 1 true
 word_after b w fault.Dirty at = with_bit (entry_in w (page_of at)) 2 true
 word_after b w fault.Leaving at = swapped_of (slot_in w.frames (outgoing_frame w)) (protection_of (entry_in w (page_of at)))
-word_after b w fault.Missing at = resident_of (gained b w) (protection_of (entry_in w (page_of at)))
+word_after b w fault.Missing at = brought_entry (gained b w) (entry_in w (page_of at))
 word_after b w kind at = entry_in w (page_of at)
 
 -- and its block is exclusive in the board's own cache. After a Leaving fault a frame is free.
