@@ -1,11 +1,13 @@
 -- What stays true of a cache's lines when one place changes.
-use Rattle.std.proofs.Common.{◌≡◌, ◌≢◌, ℕ, zero, suc, ◌%◌, ◌==◌, ◌⊎◌, inl, inr, ⊎_elim, Bool, true, false, if◌then◌else◌, List, [], ◌∷◌, length, slice_set, Option, Some, None, refl, sym, ap, ◌∙◌, subst}
+use Rattle.std.proofs.Common.{◌≡◌, ◌≢◌, ℕ, zero, suc, ◌%◌, ◌==◌, ◌⊎◌, inl, inr, ⊎_elim, Bool, true, false, if◌then◌else◌, List, [], ◌∷◌, length, slice_set, Option, Some, None, refl, sym, ap, ◌∙◌, subst, arith, get_or, ◌<◌}
 use Rattle.std.proofs.lemmas.Bool.{eq-eqb, eqb-true}
+use Rattle.std.specs.Option.{option_map}
+use Rattle.std.specs.Prelude.{IsSome}
 use Rattle.std.proofs.lemmas.List.{length-set}
 use Rattle.spur_addr.specs.Address.{block_of}
 use Rattle.spur_cache.specs.declared.line.Line.{Line}
 use Rattle.spur_snoop.specs.Size.{IsLineCount}
-use Rattle.spur_cache.specs.Lines.{IsCache, IsHeld, found, tagged, line_at, index_of, filled, left_by, with_line, with_state, set_found, changed, changed_found, in_state}
+use Rattle.spur_cache.specs.Lines.{IsCache, IsHeld, found, tagged, line_at, index_of, filled, left_by, with_line, dirtied, written, in_live_state}
 use Rattle.spur_snoop.specs.declared.BlockState.{BlockState}
 use Rattle.spur_snoop.specs.declared.BlockState.TheVariants.{Invalid, UnOwned, OwnedNonExclusive, OwnedExclusive}
 
@@ -91,27 +93,72 @@ found_tag lines g line is = (tagged_is (block_of g) (line_at lines (index_of lin
 pub found_held : (lines : List (Option Line)) (g : ℕ) (line : Line) → IsCache lines → found lines g ≡ Some line → IsHeld line
 found_held lines g line cache is = cache.held (index_of lines (block_of g)) line (tagged_is (block_of g) (line_at lines (index_of lines (block_of g))) line is).0
 
--- to put back a line that was found, with a change, changes it
-pub changed_is : (lines : List (Option Line)) (g : ℕ) (change : Line → Line) (line : Line) → found lines g ≡ Some line → (change line).tag ≡ block_of g
-    → with_line lines (change line) ≡ changed lines g change
-changed_is lines g change line is tag =
-    ap (λ (n : ℕ). slice_set lines (index_of lines n) (Some (change line))) tag
-    ∙ ap (changed_found lines (index_of lines (block_of g)) change) (sym is)
+-- a change of a line that leaves its block, and leaves it one that a cache may hold
+pub record KeepsLine (change : Line → Line) : Type 0 where
+  pub tag : (line : Line) → (change line).tag ≡ line.tag
+  pub held : (line : Line) → IsHeld line → IsHeld (change line)
 
--- and so with another state, or to drop it
-in_state_live : (state : BlockState) (line : Line) → state ≢ Invalid → in_state state line ≡ Some (record line { state = state })
-in_state_live Invalid line live = absurd (live refl)
-in_state_live UnOwned line live = refl
-in_state_live OwnedNonExclusive line live = refl
-in_state_live OwnedExclusive line live = refl
+pub dirtied-keeps : KeepsLine dirtied
+dirtied-keeps = record { tag = λ line. refl; held = λ line h. record { valid = h.valid; tag = h.tag; words = h.words } }
 
-pub restated_is : (lines : List (Option Line)) (g : ℕ) (state : BlockState) (line : Line) → state ≢ Invalid → found lines g ≡ Some line → line.tag ≡ block_of g
-    → with_line lines (record line { state = state }) ≡ with_state lines g state
-restated_is lines g state line live is tag =
-    ap (λ (n : ℕ). slice_set lines (index_of lines n) (Some (record line { state = state }))) tag
-    ∙ ap (slice_set lines (index_of lines (block_of g))) (sym (in_state_live state line live))
-    ∙ ap (set_found lines (index_of lines (block_of g)) state) (sym is)
+pub written-keeps : (word value : ℕ) → KeepsLine (written word value)
+written-keeps word value = record {
+  tag = λ line. refl;
+  held = λ line h. record { valid = h.valid; tag = h.tag; words = length-set line.words word value ∙ h.words };
+}
 
-pub dropped_is : (lines : List (Option Line)) (g : ℕ) (line : Line) → found lines g ≡ Some line
-    → slice_set lines (index_of lines (block_of g)) None ≡ with_state lines g Invalid
-dropped_is lines g line is = ap (set_found lines (index_of lines (block_of g)) Invalid) (sym is)
+pub in_live_state-keeps : (state : BlockState) → state ≢ Invalid → KeepsLine (in_live_state state)
+in_live_state-keeps state live = record { tag = λ line. refl; held = λ line h. record { valid = live; tag = h.tag; words = h.words } }
+
+-- this is what stands at the place of a block that the lines have
+pub record IsPlace (lines : List (Option Line)) (g slot : ℕ) (place : Option Line) : Type 0 where
+  pub slot_is : slot ≡ index_of lines (block_of g)
+  pub there : line_at lines slot ≡ place
+  pub some : IsSome (found lines g)
+
+-- what is read at a place stands there
+pub line_at-get : (lines : List (Option Line)) (slot : ℕ) (place : Option Line) → slot < length lines → place ≡ get_or lines slot place
+    → line_at lines slot ≡ place
+line_at-get [] slot place within is = absurd (omega arith)
+line_at-get (x ∷ xs) zero place within is = sym is
+line_at-get (x ∷ xs) (suc slot) place within is = line_at-get xs slot place (omega arith) is
+
+-- the same, told of the lines that contracts see
+pub place_is : (lines now : List (Option Line)) (g slot : ℕ) (place : Option Line) → lines ≡ now → slot ≡ index_of now (block_of g) → slot < length now
+    → place ≡ get_or lines slot place → IsSome (found now g) → IsPlace lines g slot place
+place_is lines now g slot place same slot_is within read some =
+    record {
+      slot_is = slot_is ∙ sym (ap (λ (ls : List (Option Line)). index_of ls (block_of g)) same);
+      there = line_at-get lines slot place (subst (λ (ls : List (Option Line)). slot < length ls) (sym same) within) read;
+      some = subst (λ (ls : List (Option Line)). IsSome (found ls g)) (sym same) some;
+    }
+
+-- its line
+pub record HasLine (lines : List (Option Line)) (g : ℕ) (place : Option Line) : Type 0 where
+  pub line : Line
+  pub stands : place ≡ Some line
+  pub is_found : found lines g ≡ Some line
+
+some_is : (o : Option Line) → IsSome o → (line : Line) × (o ≡ Some line)
+some_is None some = cc
+some_is (Some line) some = (line, refl)
+
+pub line_there : (lines : List (Option Line)) (g slot : ℕ) (place : Option Line) → IsPlace lines g slot place → HasLine lines g place
+line_there lines g slot place is =
+    let one = some_is (found lines g) is.some in
+    let at : place ≡ line_at lines (index_of lines (block_of g)) = sym is.there ∙ ap (line_at lines) is.slot_is in
+    record { line = one.0; stands = at ∙ (tagged_is (block_of g) (line_at lines (index_of lines (block_of g))) one.0 one.1).0; is_found = one.1 }
+
+-- to change the line where it stands leaves the lines those of a cache
+pub cache-changed : (lines : List (Option Line)) (g slot : ℕ) (change : Line → Line) (place : Option Line) → IsCache lines → IsPlace lines g slot place
+    → KeepsLine change → IsCache (slice_set lines slot (option_map change place))
+cache-changed lines g slot change place cache is keeps =
+    let it = line_there lines g slot place is in
+    let line : Line = it.line in
+    let its_place : index_of lines (change line).tag ≡ slot =
+    ap (index_of lines) (keeps.tag line ∙ found_tag lines g line it.is_found) ∙ sym is.slot_is in
+    subst (λ (p : Option Line). IsCache (slice_set lines slot (option_map change p))) (sym it.stands)
+    (cache-set lines slot (Some (change line)) cache record {
+      placed = λ l same. ap (λ (m : Line). index_of lines m.tag) (sym (some_same (change line) l same)) ∙ its_place;
+      held = λ l same. subst IsHeld (some_same (change line) l same) (keeps.held line (found_held lines g line cache it.is_found));
+    })

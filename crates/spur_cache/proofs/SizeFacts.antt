@@ -1,9 +1,9 @@
 -- The numbers with one bit set are the powers of two.
-use Rattle.std.proofs.Common.{◌≡◌, ◌≢◌, ◌↔◌, Bool, true, ℕ, zero, suc, ◌+◌, ◌*◌, ◌<◌, ◌≤◌, ◌/◌, ◌%◌, ◌^◌, ⊎_elim, refl, sym, ap, ◌∙◌, arith}
+use Rattle.std.proofs.Common.{◌≡◌, ◌≢◌, ◌↔◌, Bool, true, ℕ, zero, suc, ◌+◌, ◌*◌, ◌<◌, ◌≤◌, ◌/◌, ◌%◌, ◌^◌, ⊎_elim, refl, sym, ap, ◌∙◌, arith, ◌-◌, subst}
 use Rattle.std.proofs.lemmas.Bool.{cases_lt, cases_eq, eqb-true, eq-eqb}
-use Rattle.std.proofs.lemmas.Nat.{mod_below, ones_cat, pow_pos, zero_from_ones}
+use Rattle.std.proofs.lemmas.Nat.{and_mask, mod_below, ones_cat, pow_pos, zero_from_ones}
 use Rattle.std.proofs.Math.Nat.{two-pow-succ}
-use Rattle.std.specs.Prelude.{count_ones}
+use Rattle.std.specs.Prelude.{count_ones, bit_and}
 use Rattle.std.specs.Int.{IsPowerOfTwo, is_power_of_two}
 use Rattle.spur_snoop.specs.Size.{IsLineCount}
 
@@ -69,3 +69,9 @@ bit_of lines count = eq-eqb (count_ones lines) 1 (ap count_ones count.power ∙ 
 
 pub counted : (lines : ℕ) (test : Bool) → test ≡ is_power_of_two lines → 16 ≤ lines → lines ≤ 4096 → (test ≡ true) ↔ IsLineCount lines
 counted lines test is some few = (λ one. count_of lines some few (sym is ∙ one), λ count. is ∙ bit_of lines count)
+
+-- the digits below the bit are the rest
+pub masked : (block lines : ℕ) → IsLineCount lines → bit_and block (lines - 1) ≡ block % lines
+masked block lines count =
+    let P : ℕ → Type 0 = λ n. bit_and block (n - 1) ≡ block % n in
+    subst P (sym count.power) (and_mask block count.exponent)

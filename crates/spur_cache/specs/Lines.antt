@@ -80,6 +80,10 @@ in_state UnOwned line = Some (record line { state = UnOwned })
 in_state OwnedNonExclusive line = Some (record line { state = OwnedNonExclusive })
 in_state OwnedExclusive line = Some (record line { state = OwnedExclusive })
 
+-- a line in another state, which is a valid one
+abbrev pub in_live_state : BlockState → Line → Line
+in_live_state state line = record line { state = state }
+
 -- the lines with that at a place in another state, where there is one
 abbrev pub set_found : List (Option Line) → ℕ → BlockState → Option Line → List (Option Line)
 set_found lines slot state None = lines

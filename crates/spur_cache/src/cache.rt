@@ -1,8 +1,9 @@
 //! A direct-mapped cache.
 
 ghost use Rattle.std.specs.Prelude.{◌≡◌, ◌≢◌, ◌<◌, ◌^◌, ◌↔◌, ◌⊎◌, Err, IfErr, IfOk, IsSome, None, Some, length, option_copied, replicate, slice_set, true};
+ghost use Rattle.std.specs.Option.{option_map};
 ghost use Rattle.spur_addr.specs.Address.{block_of, page_of};
-ghost use Rattle.spur_cache.specs.Lines.{IsCache, IsHeld, IsSpan, found, line_at, filled, page_lines_of, index_of, victim_of, with_dirty, with_line, with_state, with_word, word_in};
+ghost use Rattle.spur_cache.specs.Lines.{IsCache, IsHeld, IsSpan, dirtied, found, line_at, filled, in_live_state, page_lines_of, index_of, victim_of, with_dirty, with_line, with_state, with_word, word_in, written};
 ghost use Rattle.spur_snoop.specs.Size.{IsLineCount};
 ghost use Rattle.spur_cache.specs.declared.fault.CacheFault.TheVariants.{BadLines, NoMemory};
 ghost use Rattle.spur_snoop.specs.declared.BlockState.TheVariants.{Invalid};
@@ -10,7 +11,7 @@ ghost use Rattle.spur_snoop.specs.declared.BlockState.TheVariants.{Invalid};
 use crate::fault::CacheFault;
 use crate::line::Line;
 use arrayvec::ArrayVec;
-use spur_addr::GlobalAddr;
+use spur_addr::{GlobalAddr, PAGE_BLOCKS};
 use spur_snoop::BlockState;
 use std::alloc::Global;
 use std::marker::Model;
@@ -20,9 +21,6 @@ const MIN_LINES: u32 = 16;
 
 /// The most lines that a cache may have.
 const MAX_LINES: u32 = 4096;
-
-/// The blocks of a page, so that at most as many lines hold one of them.
-const PAGE_BLOCKS: usize = 128;
 
 /// The lines of a direct-mapped cache, each on its place.
 ///
@@ -116,9 +114,8 @@ impl Cache {
         if let BlockState::Invalid = state {
             self.drop_line(at);
         } else {
-            let mut line = self.held(at);
-            line.state = state;
-            self.put(line);
+            let slot = self.slot(at.block());
+            put_state(&mut self.lines[slot], state);
         }
     }
 
@@ -127,9 +124,8 @@ impl Cache {
         requires { IsSome (found self.old at) }
         ensures { self.new ≡ with_dirty self.old at }
     {
-        let mut line = self.held(at);
-        line.dirty = true;
-        self.put(line);
+        let slot = self.slot(at.block());
+        put_dirty(&mut self.lines[slot]);
     }
 
     /// The word at `at`, of a block that the cache holds.
@@ -145,9 +141,8 @@ impl Cache {
         requires { IsSome (found self.old at) }
         ensures { self.new ≡ with_word self.old at value }
     {
-        let mut line = self.held(at);
-        line.words[at.word_in_block() as usize] = value;
-        self.put(line);
+        let slot = self.slot(at.block());
+        put_word(&mut self.lines[slot], at.word_in_block(), value);
     }
 
     /// The numbers of the lines that hold a block of the page of `at`, ascending. A page has 128
@@ -178,16 +173,12 @@ impl Cache {
     }
 
     /// The line of a block that the cache holds.
-    fn held(&self, at: GlobalAddr) -> Line
+    fn held(&self, at: GlobalAddr) -> &Line
         requires { IsSome (found self.now at) }
-        ensures found { found self.now at ≡ Some result }
-        ensures tag { result.tag ≡ block_of at }
-        ensures held { IsHeld result }
+        ensures { found self.now at ≡ Some result.now }
     {
-        // so that the check knows the lines to be those of a cache
-        let _ = &self.lines;
         match self.find(at) {
-            Some(line) => *line,
+            Some(line) => line,
             None => unreachable!(),
         }
     }
@@ -225,7 +216,7 @@ impl Cache {
         ensures within { result < length self.now }
         ensures cache { IsCache self.now }
     {
-        (block % self.lines.len() as u64) as usize
+        (block & (self.lines.len() as u64 - 1)) as usize
     }
 
     /// Where lines of a page may stand: from the first number on, and before the second.
@@ -253,6 +244,34 @@ fn is_line_count(lines: u32) -> bool
     match lines {
         MIN_LINES..=MAX_LINES => lines.is_power_of_two(),
         _ => false,
+    }
+}
+
+/// Changes the state of the line at a place, where there is one.
+fn put_state(place: &mut Option<Line>, state: BlockState)
+    ensures { place.new ≡ option_map (in_live_state state) place.old }
+{
+    if let Some(line) = place {
+        line.state = state;
+    }
+}
+
+/// Sets the dirty copy of the line at a place, where there is one.
+fn put_dirty(place: &mut Option<Line>)
+    ensures { place.new ≡ option_map dirtied place.old }
+{
+    if let Some(line) = place {
+        line.dirty = true;
+    }
+}
+
+/// Writes a word, counted from 0, of the line at a place, where there is one.
+fn put_word(place: &mut Option<Line>, word: u32, value: u32)
+    requires { word < 8 }
+    ensures { place.new ≡ option_map (written word value) place.old }
+{
+    if let Some(line) = place {
+        line.words[word as usize] = value;
     }
 }
 

@@ -205,3 +205,12 @@ fn a_board_changes_its_cache_alone(rt: HostRuntime) -> Result<(), Fail> {
     assert_eq!(rt; board.number, 11);
     Ok(())
 }
+
+/// Takes a value that may go to another thread.
+fn take_sendable<T: Send + Drop>(_value: T) {}
+
+#[test]
+fn a_cache_may_go_to_another_thread(rt: HostRuntime) -> Result<(), Fail> {
+    take_sendable(Cache::new(rt.alloc(), 16)?);
+    Ok(())
+}

@@ -3,3 +3,4 @@ pub mod RoundFacts
 pub mod DifferFacts
 pub mod ClockFacts
 pub mod LoopFacts
+pub mod CountFacts

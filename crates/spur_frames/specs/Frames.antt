@@ -1,5 +1,5 @@
 -- Frames that hold a page each or are free, and a hand that goes round them.
-use Rattle.std.specs.Prelude.{ℕ, ◌+◌, ◌-◌, ◌<◌, ◌≤◌, ◌==◌, ◌≡◌, if◌then◌else◌, List, [], ◌∷◌, length, take, drop, replicate, get_or, slice_set, Option, Some, None, IsSome, IfSome}
+use Rattle.std.specs.Prelude.{ℕ, ◌+◌, ◌-◌, ◌<◌, ◌≤◌, ◌==◌, ◌≡◌, if◌then◌else◌, List, [], ◌∷◌, length, take, drop, replicate, get_or, slice_set, Option, Some, None, IsSome, IfSome, count_by, is_none}
 use Rattle.std.specs.Option.{option_or}
 
 -- the number of the first frame; what each frame from there on holds: a page and its slot, or nothing; the place of
@@ -54,6 +54,10 @@ pub record AreFrames (frames : Frames) : Type 0 where
 -- so many frames, all free, the hand on the first
 abbrev pub new_frames : ℕ → ℕ → Frames
 new_frames first count = record { first = first; held = replicate count None; hand = 0; leaving = None }
+
+-- how many frames are free
+abbrev pub free_count : List (Option (ℕ × ℕ)) → ℕ
+free_count held = count_by is_none held
 
 -- the first free frame, where the first one has number k
 abbrev pub free_from : ℕ → List (Option (ℕ × ℕ)) → Option ℕ

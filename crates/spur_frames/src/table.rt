@@ -18,16 +18,18 @@ pub struct FrameTable {
     held: Vec<Option<(u32, u32)>>,
     hand: u32,
     leaving: Option<u32>,
+    free: u32,
 }
 
 impl Model for FrameTable {
-    ghost use Rattle.spur_frames.specs.Frames.{AreFrames, Frames};
+    ghost use Rattle.std.specs.Prelude.{◌≡◌};
+    ghost use Rattle.spur_frames.specs.Frames.{AreFrames, Frames, free_count};
 
     ghost Value = { Frames };
 
     ghost view = { λ a. record { first = a.first; held = a.held.items; hand = a.hand; leaving = a.leaving } };
 
-    ghost invariant = { λ a. AreFrames (record { first = a.first; held = a.held.items; hand = a.hand; leaving = a.leaving }) };
+    ghost invariant = { λ a. AreFrames (record { first = a.first; held = a.held.items; hand = a.hand; leaving = a.leaving }) × (a.free ≡ free_count a.held.items) };
 }
 
 impl FrameTable {
@@ -45,6 +47,7 @@ impl FrameTable {
             held,
             hand: 0,
             leaving: None,
+            free: frames,
         })
     }
 
@@ -57,11 +60,14 @@ impl FrameTable {
     }
 
     /// The free frame with the least number; `None` exactly where none is free. Looks at each frame up
-    /// to that one.
+    /// to that one, and at no frame where none is free: the table keeps the number of its free frames.
     pub fn free_one(&self) -> Option<u32>
         ensures least { result ≡ least_free self.now }
         ensures free { IfSome result (IsFree self.now) }
     {
+        if self.free == 0 {
+            return None;
+        }
         for (k, holder) in self.held.iter().enumerate() {
             if holder.is_none() {
                 return Some(self.first + k as u32);
@@ -109,6 +115,7 @@ impl FrameTable {
         ensures taken { self.new ≡ take_frame self.old frame page slot }
     {
         self.held[(frame - self.first) as usize] = Some((page, slot));
+        self.free -= 1;
     }
 
     /// Frees a taken frame. Where it was the leaving one, none is leaving. Looks at one frame.
@@ -117,6 +124,7 @@ impl FrameTable {
         ensures released { self.new ≡ release_frame self.old frame }
     {
         self.held[(frame - self.first) as usize] = None;
+        self.free += 1;
         if self.leaving == Some(frame) {
             self.leaving = None;
         }

@@ -220,3 +220,12 @@ fn the_clock_starts_at_the_hand_and_leaves_out_free_frames(rt: HostRuntime) -> R
     assert_eq!(rt; three.table.look_next(), Some(66));
     Ok(())
 }
+
+/// Takes a value that may go to another thread.
+fn take_sendable<T: Send + Drop>(_value: T) {}
+
+#[test]
+fn a_table_may_go_to_another_thread(rt: HostRuntime) -> Result<(), Fail> {
+    take_sendable(FrameTable::new(rt.alloc(), 64, 3)?);
+    Ok(())
+}
