@@ -1,5 +1,5 @@
 -- Boards and their caches: what a call does to the boards, by their caches and their lens.
-use Rattle.std.proofs.Common.{◌≡◌, ◌≢◌, ◌∙◌, ℕ, ◌+◌, ◌<◌, ◌==◌, Bool, true, false, if◌then◌else◌, ap, sym, refl, subst, get_or, List, [], ◌∷◌, length, map, slice_set, Option, Some, None, zero-add}
+use Rattle.std.proofs.Common.{◌≡◌, ◌≢◌, ◌∙◌, ℕ, ◌+◌, ◌<◌, ◌==◌, Bool, true, false, if◌then◌else◌, ap, sym, refl, subst, get_or, List, [], length, map, slice_set, Option, Some, None, zero-add}
 use Rattle.std.specs.Prelude.{IsSome}
 use Rattle.std.proofs.Math.ListN.{set}
 use Rattle.std.proofs.lemmas.Bool.{eq-eqb, ne_eqb}

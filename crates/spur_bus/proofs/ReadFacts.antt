@@ -1,7 +1,6 @@
 -- A block is read into a cache.
 use Rattle.std.proofs.Common.{◌≡◌, ◌≢◌, ◌∙◌, ℕ, zero, suc, ◌+◌, ◌-◌, ◌<◌, ◌≤◌, ◌*◌, ◌/◌, ◌%◌, ◌^◌, inl, Bool, true, false, if◌then◌else◌, ap, sym, refl, subst, get_or, List, [], ◌∷◌, length, map, drop, slice_get, slice_index, Option, Some, None, arith}
 use Rattle.std.proofs.lemmas.List.{get_or-take, get_or-drop, ext_get_or, length-take-le, length-drop}
-use Rattle.std.proofs.lemmas.List.{length-map}
 use Rattle.std.proofs.lemmas.Option.{slice_get-get_or}
 use Rattle.spur_addr.specs.Address.{block_of, block_start_of}
 use Rattle.spur_addr.specs.declared.page_entry.Protection.{Protection}

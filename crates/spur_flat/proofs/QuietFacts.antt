@@ -35,7 +35,7 @@ opened_same opened (SetRef board at) is none = absurd is
 opened_same opened (SetDirty board at) is none = absurd is
 opened_same opened (ClearRef board at) is none = absurd is
 
-tags_same : (F : Flat) (T : List (List (Option Tag))) (entry : Entry) → IsAccess entry → tags_on F T entry ≡ T
+pub tags_same : (F : Flat) (T : List (List (Option Tag))) (entry : Entry) → IsAccess entry → tags_on F T entry ≡ T
 tags_same F T (Load board at value) is = refl
 tags_same F T (Store board at value) is = refl
 tags_same F T (Tas board at old) is = refl

@@ -30,7 +30,8 @@ use Rattle.spur_walk.proofs.BoundFacts.{page-few}
 use Rattle.spur_pager.specs.Acts.{Hold}
 use Rattle.spur_pager.specs.Fetch.{Leads}
 use Rattle.spur_pager.proofs.FetchFacts.{flat_same}
-use Rattle.spur_pager.proofs.OpenFacts.{lacks_nothing, none_set, opens, set_again}
+use Rattle.spur_pager.proofs.OpenFacts.{opens}
+use Rattle.spur_walk.proofs.OpenedFacts.{lacks_nothing, set_again, none_set, none_open}
 
 -- an entry of the bus is allowed in each flat state
 record IsFree (F : Flat) (e : Entry) : Type 0 where
@@ -69,9 +70,6 @@ pub record IsPagers (b g : ℕ) (mid : Hold) (e : Entry) : Type 0 where
   pub small : address_of e < 2 ^ 38
   pub tagged : (F : Flat) → tags_refusal F (tags_of mid.caches) e ≡ None
   pub still : (F : Flat) → tags_on F (tags_of mid.caches) e ≡ tags_of mid.caches
-
-abbrev pub none_open : ℕ → List (List Entry)
-none_open n = replicate n []
 
 -- the state of a flat state and of caches, where nothing is open
 abbrev pub closed : Flat → Hold → ℕ → State

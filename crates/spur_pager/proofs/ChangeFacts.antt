@@ -29,7 +29,7 @@ use Rattle.spur_flat.specs.Past.{Past}
 use Rattle.spur_pager.specs.Acts.{Hold, with_entry_word}
 use Rattle.spur_pager.specs.Changes.{Changes, MayChange, changed_word, entry_for, entry_word}
 use Rattle.spur_pager.specs.Fetch.{Fetches}
-use Rattle.spur_pager.proofs.OpenFacts.{small_length}
+use Rattle.spur_walk.proofs.OpenedFacts.{small_length}
 use Rattle.spur_pager.proofs.OptionFacts.{some_is}
 use Rattle.spur_pager.proofs.WriteFacts.{HasEntry, writes}
 

@@ -35,10 +35,11 @@ use Rattle.spur_pager.proofs.EntryFacts.{IsAbove, page_again, page_user, small_u
 use Rattle.spur_pager.proofs.FrameWordFacts.{IsBare, spare_bare}
 use Rattle.spur_pager.proofs.HolderFacts.{own_state}
 use Rattle.spur_pager.proofs.LoadFacts.{HasEntries, MayPut, entries_put, logical_put, present_same, put, put_is, root_kept, size_kept, size_new, spare_same, table_kept, tables_of, walks_put}
-use Rattle.spur_pager.proofs.MadeFacts.{changes_made, page_starts}
+use Rattle.spur_pager.proofs.MadeFacts.{changes_made}
+use Rattle.spur_flat.proofs.FormedFacts.{page_address_starts}
 use Rattle.spur_pager.proofs.MoveFacts.{IsSpare, absent_unheld, in_may}
 use Rattle.spur_pager.proofs.MovedFacts.{IsMoved, moved-is-carried, moved-keeps}
-use Rattle.spur_pager.proofs.PageWordFacts.{IsPut}
+use Rattle.spur_flat.proofs.PageWordFacts.{IsPut}
 use Rattle.spur_pager.proofs.PlaceFacts.{placed}
 use Rattle.spur_pager.proofs.LookFacts.{room_used}
 use Rattle.spur_pager.proofs.RunFacts.{past_of, done_one}
@@ -269,7 +270,7 @@ module _ (w : View) (b frame page slot : ℕ) (may : MayComeIn w b frame page sl
         history = c.entries;
         room = c.room;
         done = Loaded frame words (Writes g e (changed_word (In frame)) ∷ []) (hold_of w) (hold_of v) (c.fetched ++ e ∷ []) long (done_one b g e (changed_word (In frame)) from c.mid (hold_of v) c.fetched c.fetch c.to_is);
-        made = changes_made b g (In frame) from (hold_of v) (past_of w) (past_of v) may.within (small_user g user) (page_starts page) c;
+        made = changes_made b g (In frame) from (hold_of v) (past_of w) (past_of v) may.within (small_user g user) (page_address_starts page) c;
         keeps = moved-keeps b g (In frame) w v from c moved;
         carries = moved-is-carried b g (In frame) w v from c moved;
       };

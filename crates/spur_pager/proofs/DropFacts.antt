@@ -33,7 +33,7 @@ use Rattle.spur_flat.specs.Formed.{IsMade}
 use Rattle.spur_pager.specs.Served.{Keeps}
 use Rattle.spur_pager.specs.Served as served
 use Rattle.spur_pager.specs.Drops.{DropsBlock, IsLeavingBlock}
-use Rattle.spur_pager.proofs.CarryFacts.{none_open}
+use Rattle.spur_walk.proofs.OpenedFacts.{none_open}
 use Rattle.spur_pager.proofs.MadeFacts.{flush_made}
 use Rattle.spur_pager.proofs.OpenFacts.{none_same}
 

@@ -27,7 +27,7 @@ use Rattle.spur_pager.proofs.ServiceFacts.{entry_at, same_entry_address, served_
 use Rattle.spur_pager.specs.Runs.{Runs}
 use Rattle.spur_pager.specs.Marks.{IsMarked, MayMark}
 use Rattle.spur_pager.proofs.EntryFacts.{page_again, page_user, user_page, valid_declared}
-use Rattle.spur_pager.proofs.MadeFacts.{page_starts}
+use Rattle.spur_flat.proofs.FormedFacts.{page_address_starts}
 use Rattle.spur_pager.proofs.PlaceFacts.{word_page}
 use Rattle.std.proofs.lemmas.Bool.{and_parts}
 
@@ -105,7 +105,7 @@ reference_may w some b at st within user f =
     record {
       is = tt;
       user = user_g;
-      starts = page_starts (page_of at);
+      starts = page_address_starts (page_of at);
       within = within;
       valid = (and_parts (is_valid (entry_word (hold_of w) g)) (not (is_referenced (entry_word (hold_of w) g))) (here some st)).0;
       allowed = λ (rest : Flat) (s : Stands rest w).
@@ -122,7 +122,7 @@ dirty_may w some b at st within user f =
     record {
       is = tt;
       user = user_g;
-      starts = page_starts (page_of at);
+      starts = page_address_starts (page_of at);
       within = within;
       valid = (and_parts (is_valid (entry_word (hold_of w) g)) (not (is_dirty (entry_word (hold_of w) g)))
           ((and_parts (is_valid (entry_word (hold_of w) g) && not (is_dirty (entry_word (hold_of w) g))) (is_read_write (protection_of (entry_word (hold_of w) g))) (here some st)).0)).0;

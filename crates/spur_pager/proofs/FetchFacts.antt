@@ -36,9 +36,9 @@ use Rattle.spur_flat.specs.Past.{Past}
 use Rattle.spur_pager.specs.Acts.{Hold, IsWay, Stays, Goes}
 use Rattle.spur_flat.specs.Formed.{IsMade}
 use Rattle.spur_pager.specs.Fetch.{Fetches, Leads, Went}
-use Rattle.spur_pager.proofs.MadeFacts.{step_made}
+use Rattle.spur_walk.proofs.MadeFacts.{page-made}
 use Rattle.spur_pager.proofs.UserFacts.{user_was}
-use Rattle.spur_pager.proofs.OpenFacts.{all-push, small_length}
+use Rattle.spur_walk.proofs.OpenedFacts.{all-push, small_length}
 
 -- entries of the bus leave each flat state
 pub flat_same : (F : Flat) (b lines : ℕ) (blocks : List ℕ) (owned : Option ℕ) (es : List Entry) → AllByRecursion (IsServing b lines blocks owned) es → flat_after F es ≡ F
@@ -101,7 +101,7 @@ leads_more b g from mid to fetched e leads within user root steps moved =
       serving = all-push (IsServing b (line_count from.caches) (pager_blocks g) (Some (entry_block g))) fetched e leads.serving
           (subst (λ (n : ℕ). IsServing b n (pager_blocks g) (Some (entry_block g)) e) leads.lines serves);
       made = all-push (IsMade b (length from.caches)) fetched e leads.made
-          (subst (λ (n : ℕ). IsMade b n e) leads.boards (step_made mid.caches mid.memory b g e leads.walk.agree within user moved));
+          (subst (λ (n : ℕ). IsMade b n e) leads.boards (page-made mid.caches mid.memory b g e leads.walk.agree within user moved));
       few = omega arith;
       tagged = λ (F : Flat) (has : HasTablesOf F (logical_words from.caches from.memory)).
           let still : flat_after F fetched ≡ F = flat_same F b (line_count from.caches) (pager_blocks g) (Some (entry_block g)) fetched leads.serving in

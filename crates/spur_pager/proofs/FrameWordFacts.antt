@@ -19,16 +19,8 @@ use Rattle.spur_walk.proofs.FrameFacts.{root_small, wired_small}
 use Rattle.spur_pager.specs.Acts.{Hold}
 use Rattle.spur_pager.specs.Drops.{IsUnheld}
 use Rattle.spur_pager.proofs.MoveFacts.{IsSpare}
-use Rattle.spur_pager.proofs.PageWordFacts.{page_word}
-
--- a word that no line owns is memory's
-pub free_word : (caches : List (List (Option Line))) (memory : List ℕ) (k : ℕ) → ((i s : ℕ) (l : Line) → line_in caches i s ≡ Some l → OwnsAt (k / 1024) (k / 8 % 128) l → ⊥)
-    → logical_word caches memory k ≡ slice_index memory k
-free_word caches memory k none = by (owner caches (k / 1024) (k / 8 % 128))
-  where
-    by : Owner caches (k / 1024) (k / 8 % 128) → logical_word caches memory k ≡ slice_index memory k
-    by (Free free nobody) = ap (λ (o : Option (List ℕ)). word_or o (slice_index memory k) k) free
-    by (Owned i s l there o words) = absurd (none i s l there o)
+use Rattle.spur_flat.proofs.PageWordFacts.{page_word}
+use Rattle.spur_bus.proofs.NoLineFacts.{free_word}
 
 -- no line stands in this frame
 pub record IsBare (caches : List (List (Option Line))) (frame : ℕ) : Type 0 where

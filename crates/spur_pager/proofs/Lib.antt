@@ -29,7 +29,6 @@ pub mod StandingFacts
 pub mod BoundFacts
 pub mod FlushFacts
 pub mod FlushingFacts
-pub mod PageWordFacts
 pub mod LoadFacts
 pub mod SpareFacts
 pub mod TakenFacts

@@ -24,7 +24,7 @@ use Rattle.spur_walk.proofs.ValidFacts.{tables_alone}
 use Rattle.spur_pager.proofs.EntryFacts.{small_user}
 use Rattle.spur_pager.proofs.FrameWordFacts.{IsBare, bare_word, spare_bare}
 use Rattle.spur_pager.proofs.MoveFacts.{IsSpare}
-use Rattle.spur_pager.proofs.PageWordFacts.{IsPut, before_part, in_part, outside_part}
+use Rattle.spur_flat.proofs.PageWordFacts.{IsPut, before_part, in_part, outside_part}
 
 -- the flat state with a page in a frame
 abbrev pub put : Flat → ℕ → List ℕ → Flat

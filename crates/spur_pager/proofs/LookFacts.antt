@@ -21,7 +21,7 @@ use Rattle.spur_walk.specs.Bounds.{page_steps_left}
 use Rattle.spur_walk.proofs.BoundFacts.{page-few}
 use Rattle.spur_flat.specs.Past.{Past}
 use Rattle.spur_pager.specs.Acts.{Hold, clear_referenced, leave}
-use Rattle.spur_pager.proofs.OpenFacts.{small_length}
+use Rattle.spur_walk.proofs.OpenedFacts.{small_length}
 use Rattle.spur_pager.specs.Marks.{IsMark}
 use Rattle.spur_pager.specs.Runs.{Runs}
 use Rattle.spur_pager.specs.Looks.{Clears, KeepsAbsent, Leaves, Looks}
@@ -29,7 +29,7 @@ use Rattle.spur_pager.proofs.EntryFacts.{IsAbove, above, entries, framed_marked,
 use Rattle.spur_pager.proofs.LineFacts.{changes_lines}
 use Rattle.spur_pager.proofs.MarkFacts.{leaving_marks, referenced_marks, same_bit}
 use Rattle.spur_pager.proofs.PlaceFacts.{placed}
-use Rattle.spur_pager.proofs.MadeFacts.{page_starts}
+use Rattle.spur_flat.proofs.FormedFacts.{page_address_starts}
 use Rattle.spur_pager.proofs.RunFacts.{IsOfStore, MayWritten, flat_is, mark_may, past_of, runs}
 
 -- the hand is of no account for what the table says of pages
@@ -122,7 +122,7 @@ module _ (w : View) (b frame page slot : ℕ) (within : b < length w.caches) (f 
   clear_may some st referenced = let h = holds some st in record {
     is = tt;
     user = page_user page h.small;
-    starts = page_starts page;
+    starts = page_address_starts page;
     within = within;
     valid = h.valid;
     allowed = λ (rest : Flat) (s : Stands rest w).
@@ -136,7 +136,7 @@ module _ (w : View) (b frame page slot : ℕ) (within : b < length w.caches) (f 
   leave_may some st = let h = holds some st in record {
     is = tt;
     user = page_user page h.small;
-    starts = page_starts page;
+    starts = page_address_starts page;
     within = within;
     valid = h.valid;
     allowed = λ (rest : Flat) (s : Stands rest w).

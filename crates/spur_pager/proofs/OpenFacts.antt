@@ -11,30 +11,7 @@ use Rattle.spur_flat.specs.Needed.{TooMany, first_not, greedy, is_modest, is_of_
 use Rattle.spur_flat.specs.State.{IsNeeded, open_after}
 use Rattle.spur_bus.specs.Stand.{IsOfBus}
 use Rattle.spur_walk.specs.Laws.{IsServing}
-
--- entries that all pass a test
-first_passes : (test : Entry → Bool) (k : ℕ) (es : List Entry) → AllByRecursion (λ (e : Entry). test e ≡ true) es → first_not test k es ≡ None
-first_passes test k [] all = refl
-first_passes test k (e ∷ es) all =
-    ap (λ (t : Bool). if t then first_not test (k + 1) es else Some k) all.0 ∙ first_passes test (k + 1) es all.1
-
-all_useful : (b lines : ℕ) (blocks : List ℕ) (owned : Option ℕ) (es : List Entry) → AllByRecursion (IsServing b lines blocks owned) es → AllByRecursion (λ (e : Entry). is_of_use lines blocks e ≡ true) es
-all_useful b lines blocks owned [] all = tt
-all_useful b lines blocks owned (e ∷ es) all = (all.0.useful, all_useful b lines blocks owned es all.1)
-
-all_modest : (b lines : ℕ) (blocks : List ℕ) (owned : Option ℕ) (es : List Entry) → AllByRecursion (IsServing b lines blocks owned) es → AllByRecursion (λ (e : Entry). is_modest owned e ≡ true) es
-all_modest b lines blocks owned [] all = tt
-all_modest b lines blocks owned (e ∷ es) all = (all.0.modest, all_modest b lines blocks owned es all.1)
-
--- the entry that they serve lacks nothing
-pub lacks_nothing : (b lines : ℕ) (blocks : List ℕ) (owned : Option ℕ) (es : List Entry) → AllByRecursion (IsServing b lines blocks owned) es → lack_in lines es (Serves blocks owned) ≡ None
-lacks_nothing b lines blocks owned es all =
-    ap (λ (o : Option ℕ). useless o (greedy (first_not (is_modest owned) 0 es))) (first_passes (is_of_use lines blocks) 0 es (all_useful b lines blocks owned es all))
-    ∙ ap greedy (first_passes (is_modest owned) 0 es (all_modest b lines blocks owned es all))
-
-pub all-push : {X : Type 0} (P : X → Type 0) (xs : List X) (x : X) → AllByRecursion P xs → P x → AllByRecursion P (xs ++ x ∷ [])
-all-push P [] x all last = (last, tt)
-all-push P (y ∷ ys) x all last = (all.0, all-push P ys x all.1 last)
+use Rattle.spur_walk.proofs.OpenedFacts.{all-push, small_length, set_again, none_open, none_set}
 
 -- what a step's entry is to its board's open entries: one more, or nothing
 pub data IsNeutral (e : Entry) : Role → Type 0 where
@@ -65,10 +42,6 @@ pub record OpensTo (b lines : ℕ) (blocks : List ℕ) (owned : Option ℕ) (ope
   pub after : open_after opened es ≡ slice_set opened b now
   pub needed : IsNeeded lines opened es
 
-pub small_length : (os : List Entry) (e : Entry) → length (os ++ e ∷ []) ≡ length os + 1
-small_length [] e = refl
-small_length (o ∷ os) e = let r : length (os ++ e ∷ []) ≡ length os + 1 = small_length os e in omega arith
-
 -- one more entry, by its role
 record Opened (b lines : ℕ) (blocks : List ℕ) (owned : Option ℕ) (os : List Entry) (e : Entry) (role : Role) : Type 0 where
   pub serving : AllByRecursion (IsServing b lines blocks owned) (open_in os e role)
@@ -84,11 +57,6 @@ opened_one b lines blocks owned os e Opens AsOpens one all few = record {
 }
 opened_one b lines blocks owned os e (Serves x y) is one all few = elim is [ ]
 opened_one b lines blocks owned os e Apart AsApart one all few = record { serving = all; lacks = refl; short = omega arith }
-
-pub set_again : {X : Type 0} (xs : List X) (b : ℕ) (x y : X) → slice_set (slice_set xs b x) b y ≡ slice_set xs b y
-set_again [] b x y = refl
-set_again (z ∷ zs) zero x y = refl
-set_again {X} (z ∷ zs) (suc b) x y = ap (λ (ws : List X). z ∷ ws) (set_again zs b x y)
 
 opened_from : (b lines : ℕ) (blocks : List ℕ) (owned : Option ℕ) (base : List (List Entry)) (os es : List Entry) → b < length base → AllByRecursion (IsServing b lines blocks owned) os → AllByRecursion (IsServing b lines blocks owned) es
     → length os + length es ≤ 6 → OpensTo b lines blocks owned (slice_set base b os) es
@@ -116,14 +84,6 @@ opened_from b lines blocks owned base os (e ∷ es) within all more few =
       after = ap (λ (o : List (List Entry)). open_after o es) next ∙ rest.after ∙ set_again base b (open_in os e (role_of e)) rest.now ∙ sym (set_again base b os rest.now);
       needed = (lacks, subst (λ (o : List (List Entry)). IsNeeded lines o es) (sym next) rest.needed);
     }
-
-abbrev none_open : ℕ → List (List Entry)
-none_open n = replicate n []
-
-pub none_set : (n b : ℕ) → slice_set (none_open n) b [] ≡ none_open n
-none_set zero b = refl
-none_set (suc n) zero = refl
-none_set (suc n) (suc b) = ap (λ (ws : List (List Entry)). [] ∷ ws) (none_set n b)
 
 -- from where nothing is open
 pub opens : (n b lines : ℕ) (blocks : List ℕ) (owned : Option ℕ) (es : List Entry) → b < n → AllByRecursion (IsServing b lines blocks owned) es → length es ≤ 6 → OpensTo b lines blocks owned (replicate n []) es

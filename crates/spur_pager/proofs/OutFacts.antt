@@ -35,10 +35,11 @@ use Rattle.spur_pager.proofs.FrameWordFacts.{frame_words, unheld_bare}
 use Rattle.spur_pager.proofs.HolderFacts.{out_pager}
 use Rattle.spur_pager.proofs.JoinFacts.{told_again}
 use Rattle.spur_pager.proofs.LookFacts.{room_used}
-use Rattle.spur_pager.proofs.MadeFacts.{changes_made, page_starts}
+use Rattle.spur_pager.proofs.MadeFacts.{changes_made}
+use Rattle.spur_flat.proofs.FormedFacts.{page_address_starts}
 use Rattle.spur_pager.proofs.MoveFacts.{unheld_still}
 use Rattle.spur_pager.proofs.MovedFacts.{IsMoved, moved-is-carried, moved-keeps}
-use Rattle.spur_pager.proofs.PageWordFacts.{IsPut, page_other}
+use Rattle.spur_flat.proofs.PageWordFacts.{IsPut, page_other}
 use Rattle.spur_pager.proofs.PlaceFacts.{placed}
 use Rattle.spur_pager.proofs.ReleaseFacts.{IsLeft, framed_out, framed_swap}
 use Rattle.spur_pager.proofs.RunFacts.{done_one, new_flat, past_of}
@@ -273,7 +274,7 @@ module _ (w : View) (b frame page slot : ℕ) (may : MayGoOut w b frame page slo
       history = c.entries;
       room = c.room;
       done = done_one b g (PageOut b g) (changed_word (Out slot)) (hold_of w) c.mid (hold_of v) c.fetched c.fetch c.to_is;
-      made = changes_made b g (Out slot) (hold_of w) (hold_of v) (past_of w) (past_of v) may.within small (page_starts page) c;
+      made = changes_made b g (Out slot) (hold_of w) (hold_of v) (past_of w) (past_of v) may.within small (page_address_starts page) c;
       keeps = moved-keeps b g (Out slot) w v (hold_of w) c moved;
       carries = moved-is-carried b g (Out slot) w v (hold_of w) c moved;
     }

@@ -23,7 +23,7 @@ use Rattle.spur_pager.specs.Room.{room_for}
 use Rattle.spur_pager.specs.Runs.{Runs}
 use Rattle.spur_pager.specs.Served.{HasFailed, IsServed, Leaves, ServesAs, appended, hold_of}
 use Rattle.spur_pager.proofs.EntryFacts.{page_again}
-use Rattle.spur_pager.proofs.MadeFacts.{own_none}
+use Rattle.spur_flat.proofs.FormedFacts.{own_of_made}
 use Rattle.spur_pager.proofs.PlaceFacts.{word_page}
 
 -- what was appended is the piece
@@ -84,7 +84,7 @@ served_as b w v kind at answer r used frames leaves =
         room = room;
         used = few_used (length (appended w v)) w.room v.room (room_for w kind) room used;
         made = made;
-        own = own_none b (length w.caches) (appended w v) made;
+        own = own_of_made b (length w.caches) (appended w v) made;
         done = subst (λ (es : List Entry). IsDone b acts (hold_of w) es (hold_of v)) is r.done;
         frames = frames;
         first = ap (λ (fs : Frames). fs.first) frames ∙ same.first;

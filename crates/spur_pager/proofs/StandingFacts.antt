@@ -21,7 +21,7 @@ use Rattle.spur_walk.specs.Tables.{HasTables, OfPage, OfRoot, OfTable, StandsIn,
 use Rattle.spur_walk.proofs.FrameFacts.{one_place, root_small}
 use Rattle.spur_walk.proofs.TableFacts.{entry_from, entry_to, entry_word, index_small, root_word_is, root_word_start}
 use Rattle.spur_pager.specs.Standing.{first_cached_word, entry_place_in}
-use Rattle.spur_pager.proofs.FrameWordFacts.{free_word}
+use Rattle.spur_bus.proofs.NoLineFacts.{free_word}
 use Rattle.spur_pager.proofs.LineFacts.{row}
 use Rattle.spur_pager.proofs.PlaceFacts.{within}
 

@@ -20,7 +20,7 @@ use Rattle.spur_flat.specs.Clean.{AreClean}
 use Rattle.spur_pager.proofs.EntryFacts.{Entries, IsAbove, above, data_frame, entries, leaving_page, leaving_taken, page_again, page_user, small_user}
 use Rattle.spur_pager.proofs.LoadFacts.{MayPut, entry_kept, put, put_is, valid_put}
 use Rattle.spur_pager.proofs.OptionFacts.{some_not_none}
-use Rattle.spur_pager.proofs.PageWordFacts.{page_other, page_put}
+use Rattle.spur_flat.proofs.PageWordFacts.{page_put, page_other}
 use Rattle.spur_pager.proofs.PlaceFacts.{placed}
 use Rattle.spur_pager.proofs.SpareFacts.{free_apart, free_data, swapped_declared}
 

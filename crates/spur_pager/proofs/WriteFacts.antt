@@ -31,6 +31,7 @@ use Rattle.spur_walk.proofs.WordFacts.{IsWordOf, serves-written, words-written}
 use Rattle.spur_pager.specs.Acts.{with_entry_word}
 use Rattle.spur_pager.specs.Writes.{MayWrite, Writes}
 use Rattle.spur_pager.proofs.PlaceFacts.{IsPlace, mapped-written, placed, present-written, tables-written, within}
+use Rattle.spur_walk.proofs.WrittenFacts.{tags-written, put_stands, suits_written}
 
 -- cache b has the block of the entry of the page of g alone
 pub record HasEntry (caches : List (List (Option Line))) (b g : ℕ) : Type 0 where
@@ -76,33 +77,6 @@ is_word caches b g e k slot line there tag exclusive full k_is =
           omega arith;
     }
 
-set_same : (lines : List (Option Line)) (s : ℕ) (line : Line) → line_at lines s ≡ Some line → slice_set lines s (Some line) ≡ lines
-set_same [] s line h = refl
-set_same (z ∷ zs) zero line h = ap (λ (o : Option Line). o ∷ zs) (sym h)
-set_same (z ∷ zs) (suc s) line h = ap (λ (rest : List (Option Line)). z ∷ rest) (set_same zs s line h)
-
-tags-written : (caches : List (List (Option Line))) (b g n e : ℕ) (line : Line) → b < length caches → line_in caches b (index_of (get_or caches b []) (block_of g)) ≡ Some line
-    → tags_of (put caches b (index_of (get_or caches b []) (block_of g)) (written n e line)) ≡ tags_of caches
-tags-written caches b g n e line within there =
-    let own : List (Option Line) = get_or caches b [] in
-    let slot : ℕ = index_of own (block_of g) in
-    L.map-set cache_tags caches b (slice_set own slot (Some (written n e line)))
-    ∙ ap (slice_set (tags_of caches) b) (with-tags own (block_of g) (Some (written n e line)) ∙ sym (with-tags own (block_of g) (Some line)))
-    ∙ sym (L.map-set cache_tags caches b (slice_set own slot (Some line)))
-    ∙ ap tags_of (ap (slice_set caches b) (set_same own slot line (stood caches b slot line within there)) ∙ L.set-get_or caches b [])
-
-put_stands : (F : Flat) (caches : List (List (Option Line))) (b s n e : ℕ) (line : Line) (i t : ℕ) (l : Line) → AreMapped F caches → StandsIn F line.tag line.frame → Put caches b s (written n e line) i t l → StandsIn F l.tag l.frame
-put_stands F caches b s n e line i t l mapped old (Here ei et is) = subst (λ (m : Line). StandsIn F m.tag m.frame) (sym is) old
-put_stands F caches b s n e line i t l mapped old (There was away) = mapped i t l was
-
-suits_written : (F : Flat) (n e : ℕ) (line : Line) → Suiting F line → Suiting F (written n e line)
-suits_written F n e line suits = record {
-  user = λ (low : block_address line.tag < table_start).
-      let was = suits.user low in
-      record { valid = was.valid; frame = was.frame; prot = was.prot; dirty = was.dirty };
-  table = suits.table;
-  root = suits.root;
-  unowned = suits.unowned;
 }
 
 put_suits : (F : Flat) (caches : List (List (Option Line))) (b s n e : ℕ) (line : Line) (i t : ℕ) (l : Line) → ArePresent F caches → line_in caches b s ≡ Some line → Put caches b s (written n e line) i t l → Suiting F l

@@ -22,6 +22,7 @@ use Rattle.spur_bus.specs.Logical.{logical_words}
 use Rattle.spur_bus.specs.Stand.{flat_of, state_of}
 use Rattle.spur_walk.specs.Tables.{HasTablesOf}
 use Rattle.spur_walk.specs.Answered.{AccessIsCarried, AlignMayStand, StoresLeaveBy}
+use Rattle.spur_flat.proofs.QuietFacts.{tags_same}
 
 open_emptied : (opened : List (List Entry)) (e : Entry) → IsAccess e → open_on opened e ≡ slice_set opened (board_of e) []
 open_emptied opened (entry.Load b at value) is = refl
@@ -39,23 +40,6 @@ open_emptied opened (entry.PageIn b at frame) is = absurd is
 open_emptied opened (entry.SetRef b at) is = absurd is
 open_emptied opened (entry.SetDirty b at) is = absurd is
 open_emptied opened (entry.ClearRef b at) is = absurd is
-
-tags_same : (F : Flat) (T : List (List (Option Tag))) (e : Entry) → IsAccess e → tags_on F T e ≡ T
-tags_same F T (entry.Load b at value) is = refl
-tags_same F T (entry.Store b at value) is = refl
-tags_same F T (entry.Tas b at old) is = refl
-tags_same F T (entry.Fault b kind access at) is = refl
-tags_same F T (entry.Fill b l n at) is = absurd is
-tags_same F T (entry.Claim b at) is = absurd is
-tags_same F T (entry.WriteBack b at) is = absurd is
-tags_same F T (entry.Refresh b at) is = absurd is
-tags_same F T (entry.BlockFlush b holder at) is = absurd is
-tags_same F T (entry.Leave b at) is = absurd is
-tags_same F T (entry.PageOut b at) is = absurd is
-tags_same F T (entry.PageIn b at frame) is = absurd is
-tags_same F T (entry.SetRef b at) is = absurd is
-tags_same F T (entry.SetDirty b at) is = absurd is
-tags_same F T (entry.ClearRef b at) is = absurd is
 
 -- an access changes words alone, and by words alone
 abbrev of_words : List ℕ → Flat

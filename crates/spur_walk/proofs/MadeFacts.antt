@@ -22,33 +22,13 @@ use Rattle.spur_walk.specs.declared.plan.Plan.TheVariants as plan
 use Rattle.spur_walk.specs.declared.step.Walked.TheVariants as walked
 use Rattle.spur_flat.specs.Formed.{IsMade}
 use Rattle.spur_walk.specs.Made.{AccessIsMade, PageIsMade}
-
--- no board has an access or a fault of its own among them
-pub own_none : (b boards : ℕ) (es : List Entry) → AllByRecursion (IsMade b boards) es → (i : ℕ) → own_entries es i ≡ []
-own_none b boards [] all i = refl
-own_none b boards (e ∷ es) all i =
-    ap (λ (own : Bool). if own then e ∷ filter (is_own i) es else filter (is_own i) es) (all.0.apart i) ∙ own_none b boards es all.1 i
-
--- pieces one after another, where the number of caches stays
-pub made_append : (b boards : ℕ) (some more : List Entry) → AllByRecursion (IsMade b boards) some → AllByRecursion (IsMade b boards) more → AllByRecursion (IsMade b boards) (some ++ more)
-made_append b boards [] more first second = second
-made_append b boards (e ∷ es) more first second = (first.0, made_append b boards es more first.1 second)
-
--- the first byte of a block
-pub start_starts : (at : ℕ) → block_start_of at % 2 ^ 5 ≡ 0
-start_starts at = let r : at / 2 ^ 5 * 2 ^ 5 % 2 ^ 5 ≡ 0 = omega arith in r
-
-pub start_small : (at : ℕ) → at < 2 ^ 38 → block_start_of at < 2 ^ 38
-start_small at small = let r : at / 2 ^ 5 * 2 ^ 5 < 2 ^ 38 = omega arith in r
+use Rattle.spur_flat.proofs.FormedFacts.{block_start_small, block_start_starts, entry_address_small}
 
 -- the address of a plan is one of the machine's
 abbrev pub IsLow : Plan → Type 0
 IsLow (plan.Fill layer need at place) = at < 2 ^ 38
 IsLow (plan.WriteBack at) = at < 2 ^ 38
 IsLow other = ⊤
-
-pub entry_small : (at : ℕ) → at < 2 ^ 38 → entry_address_of at < 2 ^ 38
-entry_small at small = let r : 255 * 2 ^ 30 + 4 * (at / 2 ^ 12) < 2 ^ 38 = omega arith in r
 
 low_filling : (own : List (Option Line)) (layer : Layer) (need : Need) (at : ℕ) (place : Place) → IsCache own → at < 2 ^ 38 → IsLow (filling own layer need at place)
 low_filling own layer need at place cache small =
@@ -70,8 +50,8 @@ access_low caches memory b at need cache small =
       refresh = tt;
       claim = λ is. tt;
       user = λ place is. low_filling own UserBlock need at place cache small;
-      table = λ place. low_filling own PteBlock Read entry place cache (entry_small at small);
-      root = λ place. low_filling own RootBlock Read (entry_address_of entry) place cache (entry_small entry (entry_small at small));
+      table = λ place. low_filling own PteBlock Read entry place cache (entry_address_small at small);
+      root = λ place. low_filling own RootBlock Read (entry_address_of entry) place cache (entry_address_small entry (entry_address_small at small));
     })
 
 pub page_low : (caches : List (List (Option Line))) (memory : List ℕ) (b page : ℕ) → IsCache (get_or caches b []) → page < 2 ^ 38 → IsLow (page_plan caches memory b page)
@@ -81,8 +61,8 @@ page_low caches memory b page cache small =
     page_holds IsLow caches memory b page (record {
       ready = λ line is alone. tt;
       claim = λ line is alone. tt;
-      table = λ place is. low_filling own PteBlock Write entry place cache (entry_small page small);
-      root = λ place. low_filling own RootBlock Read (entry_address_of entry) place cache (entry_small entry (entry_small page small));
+      table = λ place is. low_filling own PteBlock Write entry place cache (entry_address_small page small);
+      root = λ place. low_filling own RootBlock Read (entry_address_of entry) place cache (entry_address_small entry (entry_address_small page small));
     })
 
 -- the entry of a plan
@@ -93,16 +73,16 @@ pub bus_made : (b boards g : ℕ) (p : Plan) (e : Entry) → b < boards → g < 
 bus_made b boards g plan.Ready e within small low is = cc
 bus_made b boards g (plan.Fault kind) e within small low is = cc
 bus_made b boards g plan.Refresh e within small low is =
-    let made : IsMade b boards (entry.Refresh b (block_start_of g)) = record { board = refl; apart = λ (i : ℕ). refl; there = within; small = start_small g small; starts = start_starts g } in
+    let made : IsMade b boards (entry.Refresh b (block_start_of g)) = record { board = refl; apart = λ (i : ℕ). refl; there = within; small = block_start_small g small; starts = block_start_starts g } in
     subst (IsMade b boards) (some_entry (entry.Refresh b (block_start_of g)) e is) made
 bus_made b boards g plan.Claim e within small low is =
-    let made : IsMade b boards (entry.Claim b (block_start_of g)) = record { board = refl; apart = λ (i : ℕ). refl; there = within; small = start_small g small; starts = start_starts g } in
+    let made : IsMade b boards (entry.Claim b (block_start_of g)) = record { board = refl; apart = λ (i : ℕ). refl; there = within; small = block_start_small g small; starts = block_start_starts g } in
     subst (IsMade b boards) (some_entry (entry.Claim b (block_start_of g)) e is) made
 bus_made b boards g (plan.WriteBack at) e within small low is =
-    let made : IsMade b boards (entry.WriteBack b (block_start_of at)) = record { board = refl; apart = λ (i : ℕ). refl; there = within; small = start_small at low; starts = start_starts at } in
+    let made : IsMade b boards (entry.WriteBack b (block_start_of at)) = record { board = refl; apart = λ (i : ℕ). refl; there = within; small = block_start_small at low; starts = block_start_starts at } in
     subst (IsMade b boards) (some_entry (entry.WriteBack b (block_start_of at)) e is) made
 bus_made b boards g (plan.Fill layer need at place) e within small low is =
-    let made : IsMade b boards (entry.Fill b layer need (block_start_of at)) = record { board = refl; apart = λ (i : ℕ). refl; there = within; small = start_small at low; starts = start_starts at } in
+    let made : IsMade b boards (entry.Fill b layer need (block_start_of at)) = record { board = refl; apart = λ (i : ℕ). refl; there = within; small = block_start_small at low; starts = block_start_starts at } in
     subst (IsMade b boards) (some_entry (entry.Fill b layer need (block_start_of at)) e is) made
 
 -- the entry of a step towards an access, and towards the block of a page's entry
@@ -116,4 +96,4 @@ pub page-made : PageIsMade
 page-made caches memory b page e agree within user moved =
     let u : page < 255 * 2 ^ 30 = user in
     let small : page < 2 ^ 38 = omega arith in
-    bus_made b (length caches) (entry_address_of page) (page_plan caches memory b page) e within (entry_small page small) (page_low caches memory b page (own_cache caches b agree within) small) moved
+    bus_made b (length caches) (entry_address_of page) (page_plan caches memory b page) e within (entry_address_small page small) (page_low caches memory b page (own_cache caches b agree within) small) moved

@@ -1,4 +1,4 @@
-use Rattle.std.proofs.Common.{◌∙◌, ◌<◌, ap, subst, sym, ℕ}
+use Rattle.std.proofs.Common.{rules, ◌∙◌, ◌<◌, ap, subst, sym, ℕ}
 use Rattle.std.proofs.lemmas.List.{length-map}
 use Rattle.spur_cache.specs.Lens.{caches}
 use Rattle.spur_snoop.specs.declared.BlockState.TheVariants as state_is
