@@ -10,37 +10,37 @@ use Rattle.spur_walk.specs.Bounds.{steps_left}
 use Rattle.spur_walk.proofs.FallFacts.{steps-fall}
 use Rattle.spur_walk.proofs.StepFacts.{same_flat}
 use Rattle.spur_pager.specs.Stand.{flat_in}
-use Rattle.spur_pager.specs.Faults.{IsPastBy, IsPastOf, MovedFalls, PastIsNoFault, ServedFaultFalls, SteppedKeepsFaults, faults_by, faults_of, one_if_clear}
+use Rattle.spur_pager.specs.Faults.{IsPastBy, IsPastOf, MovedFalls, PastIsNoFault, ServedFaultFalls, SteppedKeepsFaults, faults_by_bits, faults_by_word, one_if_clear}
 use Rattle.spur_pager.proofs.AgainFacts.{step-has-stepped}
 use Rattle.spur_pager.proofs.BitFacts.{After, AfterLeaving, AfterMissing, AfterReference, AfterDirty, Faults, OfDirty, OfLeaving, OfMissing, OfReference, fault_bits, served_bits}
 
 -- the number by other bits that are the same
-pub same_faults : (v l r d v1 l1 r1 d1 : Bool) → v ≡ v1 → l ≡ l1 → r ≡ r1 → d ≡ d1 → faults_by v l r d ≡ faults_by v1 l1 r1 d1
+pub same_faults : (v l r d v1 l1 r1 d1 : Bool) → v ≡ v1 → l ≡ l1 → r ≡ r1 → d ≡ d1 → faults_by_bits v l r d ≡ faults_by_bits v1 l1 r1 d1
 same_faults v l r d v1 l1 r1 d1 hv hl hr hd =
-    ap (λ (x : Bool). faults_by x l r d) hv ∙ ap (λ (x : Bool). faults_by v1 x r d) hl ∙ ap (λ (x : Bool). faults_by v1 l1 x d) hr ∙ ap (λ (x : Bool). faults_by v1 l1 r1 x) hd
+    ap (λ (x : Bool). faults_by_bits x l r d) hv ∙ ap (λ (x : Bool). faults_by_bits v1 x r d) hl ∙ ap (λ (x : Bool). faults_by_bits v1 l1 x d) hr ∙ ap (λ (x : Bool). faults_by_bits v1 l1 r1 x) hd
 
 pub one_most : (b : Bool) → one_if_clear b ≤ 1
 one_most true = omega arith
 one_most false = omega arith
 
-fewer : (v l r d v1 l1 r1 d1 : Bool) (kind : FaultKind) → Faults v l r d kind → After v l r d v1 l1 r1 d1 kind → faults_by v1 l1 r1 d1 < faults_by v l r d
+fewer : (v l r d v1 l1 r1 d1 : Bool) (kind : FaultKind) → Faults v l r d kind → After v l r d v1 l1 r1 d1 kind → faults_by_bits v1 l1 r1 d1 < faults_by_bits v l r d
 fewer v l r d v1 l1 r1 d1 fault.Missing (OfMissing hv) (AfterMissing av al) =
-    let was : faults_by v l r d ≡ 3 = same_faults v l r d false l r d hv refl refl refl in
-    let now : faults_by v1 l1 r1 d1 ≡ one_if_clear r1 + one_if_clear d1 = same_faults v1 l1 r1 d1 true false r1 d1 av al refl refl in
+    let was : faults_by_bits v l r d ≡ 3 = same_faults v l r d false l r d hv refl refl refl in
+    let now : faults_by_bits v1 l1 r1 d1 ≡ one_if_clear r1 + one_if_clear d1 = same_faults v1 l1 r1 d1 true false r1 d1 av al refl refl in
     let r_most : one_if_clear r1 ≤ 1 = one_most r1 in
     let d_most : one_if_clear d1 ≤ 1 = one_most d1 in
     omega arith
 fewer v l r d v1 l1 r1 d1 fault.Leaving (OfLeaving hv hl) (AfterLeaving av) =
-    let was : faults_by v l r d ≡ 4 = same_faults v l r d true true r d hv hl refl refl in
-    let now : faults_by v1 l1 r1 d1 ≡ 3 = same_faults v1 l1 r1 d1 false l1 r1 d1 av refl refl refl in
+    let was : faults_by_bits v l r d ≡ 4 = same_faults v l r d true true r d hv hl refl refl in
+    let now : faults_by_bits v1 l1 r1 d1 ≡ 3 = same_faults v1 l1 r1 d1 false l1 r1 d1 av refl refl refl in
     omega arith
 fewer v l r d v1 l1 r1 d1 fault.Reference (OfReference hv hl hr) (AfterReference av al ad ar) =
-    let was : faults_by v l r d ≡ 1 + one_if_clear d = same_faults v l r d true false false d hv hl hr refl in
-    let now : faults_by v1 l1 r1 d1 ≡ 0 + one_if_clear d = same_faults v1 l1 r1 d1 true false true d (av ∙ hv) (al ∙ hl) ar ad in
+    let was : faults_by_bits v l r d ≡ 1 + one_if_clear d = same_faults v l r d true false false d hv hl hr refl in
+    let now : faults_by_bits v1 l1 r1 d1 ≡ 0 + one_if_clear d = same_faults v1 l1 r1 d1 true false true d (av ∙ hv) (al ∙ hl) ar ad in
     omega arith
 fewer v l r d v1 l1 r1 d1 fault.Dirty (OfDirty hv hl hd) (AfterDirty av al ar ad) =
-    let was : faults_by v l r d ≡ one_if_clear r + 1 = same_faults v l r d true false r false hv hl refl hd in
-    let now : faults_by v1 l1 r1 d1 ≡ one_if_clear r + 0 = same_faults v1 l1 r1 d1 true false r true (av ∙ hv) (al ∙ hl) ar ad in
+    let was : faults_by_bits v l r d ≡ one_if_clear r + 1 = same_faults v l r d true false r false hv hl refl hd in
+    let now : faults_by_bits v1 l1 r1 d1 ≡ one_if_clear r + 0 = same_faults v1 l1 r1 d1 true false r true (av ∙ hv) (al ∙ hl) ar ad in
     omega arith
 fewer v l r d v1 l1 r1 d1 fault.Align h k = elim h [ ]
 fewer v l r d v1 l1 r1 d1 fault.Unmapped h k = elim h [ ]
@@ -118,7 +118,7 @@ pub stepped-keeps-faults : SteppedKeepsFaults
 stepped-keeps-faults w v b at s =
     let same : flat_in v ≡ flat_in w = same_flat w.caches v.caches w.memory v.memory s.logical in
     record {
-      faults = ap (λ (F : Flat). faults_of (word_of F at)) same;
+      faults = ap (λ (F : Flat). faults_by_word (word_of F at)) same;
       still = λ (kind : FaultKind) (p : IsPastOf (word_of (flat_in w) at) kind). subst (λ (F : Flat). IsPastOf (word_of F at) kind) (sym same) p;
     }
 

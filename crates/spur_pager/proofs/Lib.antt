@@ -44,3 +44,6 @@ pub mod BitFacts
 pub mod FewerFacts
 pub mod ReserveFacts
 pub mod OpeningFacts
+pub mod OpenedFacts
+pub mod StoredFacts
+pub mod FewFacts

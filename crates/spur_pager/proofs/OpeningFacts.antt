@@ -1,5 +1,5 @@
 -- The opening stands.
-use Rattle.std.proofs.Common.{◌≡◌, ◌∙◌, ℕ, zero, suc, ◌+◌, ◌-◌, ◌<◌, ◌≤◌, true, false, ap, sym, refl, subst, List, [], ◌∷◌, get_or, length, replicate, Option, Some, None, arith}
+use Rattle.std.proofs.Common.{◌≡◌, ◌∙◌, ℕ, zero, suc, ◌+◌, ◌-◌, ◌<◌, ◌≤◌, true, false, ap, sym, refl, subst, List, [], get_or, length, replicate, Option, Some, None, arith}
 use Rattle.std.proofs.lemmas.List.{length-replicate}
 use Rattle.spur_addr.specs.PageEntry.{is_valid}
 use Rattle.spur_cache.specs.declared.line.Line.{Line}
@@ -8,8 +8,9 @@ use Rattle.spur_flat.specs.declared.tag.Tag.{Tag}
 use Rattle.spur_flat.specs.Pager.{word_of}
 use Rattle.spur_flat.specs.TagLines.{no_tags}
 use Rattle.spur_flat.specs.Validity.{IsValidFlat}
-use Rattle.spur_bus.specs.Calls.{cache_tags, line_count, tags_of}
+use Rattle.spur_bus.specs.Calls.{line_count, tags_of}
 use Rattle.spur_bus.specs.Logical.{logical_words}
+use Rattle.spur_bus.proofs.NoLineFacts.{tags-empty}
 use Rattle.spur_frames.specs.Frames.{Frames, holder_of, new_frames}
 use Rattle.spur_walk.specs.Present.{ArePresent, MayWalk}
 use Rattle.spur_walk.specs.Tables.{logical_flat}
@@ -18,18 +19,7 @@ use Rattle.spur_pager.specs.View.{View}
 use Rattle.spur_pager.specs.Stand.{AreFramed, standing_flat, with_told}
 use Rattle.spur_flat.specs.Clean.{AreClean}
 use Rattle.spur_addr.specs.Address.{page_address, user_pages}
-use Rattle.spur_pager.specs.Opening.{IsLaidOut, IsNew, LayoutStands, OpeningStands}
-
--- empty caches
-tags_none : (lines : ℕ) → cache_tags (replicate lines None) ≡ replicate lines None
-tags_none zero = refl
-tags_none (suc lines) = ap (λ (ts : List (Option Tag)). None ∷ ts) (tags_none lines)
-
-tags-empty : (boards lines : ℕ) → tags_of (empty boards lines) ≡ no_tags boards lines
-tags-empty zero lines = refl
-tags-empty (suc boards) lines =
-    ap (λ (ts : List (Option Tag)). ts ∷ tags_of (empty boards lines)) (tags_none lines)
-    ∙ ap (λ (all : List (List (Option Tag))). replicate lines None ∷ all) (tags-empty boards lines)
+use Rattle.spur_pager.specs.Opening.{IsLaidOut, IsNewMachine, LayoutStands, OpeningStands}
 
 count-empty : (boards lines : ℕ) → 1 ≤ boards → line_count (empty boards lines) ≡ lines
 count-empty zero lines some = absurd (omega arith)
@@ -94,7 +84,7 @@ framed_new F absent = record {
     present : (page : ℕ) → page < user_pages → is_valid (word_of F (page_address page)) ≡ true → ⊥
     present page small valid = let clash : false ≡ true = sym (absent page small) ∙ valid in cc
 
-new-is-laid-out : (boards lines : ℕ) (F : Flat) (w : View) → IsNew boards lines F w → IsLaidOut boards lines F w
+new-is-laid-out : (boards lines : ℕ) (F : Flat) (w : View) → IsNewMachine boards lines F w → IsLaidOut boards lines F w
 new-is-laid-out boards lines F w new = record {
   empty = new.empty;
   framed = subst (λ (f : Frames). AreFramed F f) (sym new.frames) (framed_new F new.absent);

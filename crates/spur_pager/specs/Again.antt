@@ -20,8 +20,8 @@ pub record ShowsSame (w v : View) : Type 0 where
   pub memory : v.memory ≡ w.memory
   pub shares : SharesSame w v
 
--- Steps of the walk led from w to v, however many: what they need is there again, the logical memory is as it was, and so
--- are lines of present pages, the number of caches, and what is shared.
+-- Steps of the walk led from w to v, however many: what they need is there again, the logical memory is as it was, and
+-- so are lines of present pages, the number of caches, and what is shared.
 pub record HasStepped (w v : View) : Type 0 where
   pub walk : MayWalk v.caches v.memory
   pub logical : logical_words v.caches v.memory ≡ logical_words w.caches w.memory

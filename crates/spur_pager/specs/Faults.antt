@@ -21,22 +21,22 @@ abbrev pub one_if_clear : Bool → ℕ
 one_if_clear true = 0
 one_if_clear false = 1
 
--- How many faults may still be served, at most, by the bits of the page's entry: valid, leaving, referenced and dirty. A page
--- that is not valid comes in, and then both its bits may have to be set; one that is leaving goes out before that.
-abbrev pub faults_by : Bool → Bool → Bool → Bool → ℕ
-faults_by false leaving referenced dirty = 3
-faults_by true true referenced dirty = 4
-faults_by true false referenced dirty = one_if_clear referenced + one_if_clear dirty
+-- How many faults may still be served, at most, by the bits of the page's entry: valid, leaving, referenced and dirty.
+-- A page that is not valid comes in, and then both its bits may have to be set; one that is leaving goes out before.
+abbrev pub faults_by_bits : Bool → Bool → Bool → Bool → ℕ
+faults_by_bits false leaving referenced dirty = 3
+faults_by_bits true true referenced dirty = 4
+faults_by_bits true false referenced dirty = one_if_clear referenced + one_if_clear dirty
 
-abbrev pub faults_of : ℕ → ℕ
-faults_of e = faults_by (is_valid e) (is_leaving e) (is_referenced e) (is_dirty e)
+abbrev pub faults_by_word : ℕ → ℕ
+faults_by_word e = faults_by_bits (is_valid e) (is_leaving e) (is_referenced e) (is_dirty e)
 
 -- the same for an access of board b to the word at `at`
 abbrev pub faults_left : View → ℕ → ℕ → ℕ
-faults_left w b at = faults_of (word_of (flat_in w) at)
+faults_left w b at = faults_by_word (word_of (flat_in w) at)
 
--- a kind of fault that can't be served any more in the turn, by the same bits: the page is in its frame and stays, or it is
--- in and has the bit, or it is not leaving
+-- a kind of fault that can't be served any more in the turn, by the same bits: the page is in its frame and is to stay,
+-- and moreover has the bit, or it is not leaving
 abbrev pub IsPastBy : FaultKind → Bool → Bool → Bool → Bool → Type 0
 IsPastBy fault.Missing valid leaving referenced dirty = (valid ≡ true) × (leaving ≡ false)
 IsPastBy fault.Leaving valid leaving referenced dirty = (valid && leaving) ≡ false
@@ -58,8 +58,8 @@ pub record FaultFalls (w v : View) (b : ℕ) (kind : FaultKind) (at : ℕ) : Typ
   pub still : (other : FaultKind) → IsPast w b at other → IsPast v b at other
 
 abbrev pub ServedFaultFalls : Type 0
-ServedFaultFalls = (w v : View) (b : ℕ) (kind : FaultKind) (at : ℕ) → IsServable w → b < length w.caches → at < table_start
-    → HasFault w b kind at → IsServed b w kind at v → FaultFalls w v b kind at
+ServedFaultFalls = (w v : View) (b : ℕ) (kind : FaultKind) (at : ℕ) → IsServable w → b < length w.caches
+    → at < table_start → HasFault w b kind at → IsServed b w kind at v → FaultFalls w v b kind at
 
 -- a kind that is past does not answer
 abbrev pub PastIsNoFault : Type 0

@@ -23,3 +23,6 @@ pub mod Again
 pub mod Faults
 pub mod Reserve
 pub mod Opening
+pub mod Opened
+pub mod Stored
+pub mod Few

@@ -12,8 +12,8 @@ use Rattle.spur_pager.specs.Stand.{AreFramed, Stands, standing_flat, standing_st
 use Rattle.spur_flat.specs.Clean.{AreClean}
 use Rattle.spur_addr.specs.Address.{page_address, user_pages}
 
--- The caches hold nothing, and the memory has the words of F, which is valid. The swap has a slot for each page of F, and
--- where it tells its pages, F's.
+-- The caches hold nothing, and the memory has the words of F, which is valid. The swap has a slot for each page of F,
+-- and where it tells its pages, F's.
 pub record HoldsNothing (boards lines : ℕ) (F : Flat) (w : View) : Type 0 where
   pub some : 1 ≤ boards
   pub few : boards ≤ 12
@@ -31,7 +31,7 @@ pub record IsLaidOut (boards lines : ℕ) (F : Flat) (w : View) : Type 0 where
   pub clean : (words : List ℕ) → w.pages ≡ Some words → AreClean F
 
 -- nothing was done yet: no page's entry is valid, and all frames are free
-pub record IsNew (boards lines : ℕ) (F : Flat) (w : View) : Type 0 where
+pub record IsNewMachine (boards lines : ℕ) (F : Flat) (w : View) : Type 0 where
   pub empty : HoldsNothing boards lines F w
   pub absent : (page : ℕ) → page < user_pages → is_valid (word_of F (page_address page)) ≡ false
   pub frames : w.frames ≡ new_frames (64 + F.tables) F.frames
@@ -47,4 +47,4 @@ abbrev pub LayoutStands : Type 0
 LayoutStands = (boards lines : ℕ) (F : Flat) (w : View) → IsLaidOut boards lines F w → OpensAs boards lines F w
 
 abbrev pub OpeningStands : Type 0
-OpeningStands = (boards lines : ℕ) (F : Flat) (w : View) → IsNew boards lines F w → OpensAs boards lines F w
+OpeningStands = (boards lines : ℕ) (F : Flat) (w : View) → IsNewMachine boards lines F w → OpensAs boards lines F w

@@ -36,4 +36,7 @@ pub use fault::ServeFault;
 pub use laws::room_is_bounded;
 pub use serving::serve;
 pub use store::Store;
-pub use turn_laws::{faults_fall, opening_stands, stands_again, turn_has_room};
+pub use turn_laws::{
+    faults_fall, few_are_left, hit_stands_again, open_entries_are_carried, opening_stands,
+    stands_again, turn_has_room,
+};
