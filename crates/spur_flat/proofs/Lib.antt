@@ -19,3 +19,5 @@ pub mod UntoldFacts
 pub mod OnePage
 pub mod TwoPages
 pub mod SwappedPages
+pub mod DeclaredFacts
+pub mod HolderFacts

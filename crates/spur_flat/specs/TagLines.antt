@@ -1,5 +1,5 @@
 -- What each board's lines are known to hold, and what an entry changes there.
-use Rattle.std.specs.Prelude.{◌≡◌, ⊤, ℕ, ◌+◌, ◌%◌, ◌==◌, true, if◌then◌else◌, List, [], ◌∷◌, length, get_or, replicate, slice_get, slice_index, slice_set, Option, Some, None}
+use Rattle.std.specs.Prelude.{◌<◌, ◌≡◌, ⊤, ℕ, ◌+◌, ◌%◌, ◌==◌, true, if◌then◌else◌, List, [], ◌∷◌, length, get_or, replicate, slice_get, slice_index, slice_set, Option, Some, None}
 use Rattle.spur_addr.specs.Address.{block_of}
 use Rattle.spur_addr.specs.PageEntry.{is_dirty, protection_of, number_of}
 use Rattle.spur_addr.specs.declared.page_entry.Protection.TheVariants as allow
@@ -45,6 +45,11 @@ tag_in lines block = of_block block (standing_tag lines block)
 abbrev pub IsOfBlock : ℕ → Option Tag → Type 0
 IsOfBlock block None = ⊤
 IsOfBlock block (Some tag) = tag.block ≡ block
+
+-- there are lines, and each tag stands on the place of its block
+pub record AreInPlace (lines : List (Option Tag)) : Type 0 where
+  pub some : 0 < length lines
+  pub each : (k : ℕ) (tag : Tag) → slice_get lines k ≡ Some (Some tag) → tag_index lines tag.block ≡ k
 
 -- the state of a block whose tag this is: Invalid where there is none
 abbrev pub block_state : Option Tag → BlockState

@@ -113,27 +113,29 @@ impl Flat {
     }
 
     /// Whether the page of an address is declared, and then whether its entry passed the condition of this number.
-    /// The entry is handed in for the refusal.
+    /// The entry is the page's: it tells by itself whether the page is declared.
     fn judge(&self, at: GlobalAddr, entry: Pte, passes: bool, number: u64) -> Result<(), Illegal>
+        requires valid { IsValidFlat self.now }
+        requires entry { entry ≡ word_of self.now at }
         ensures exact { result ≡ result_of (unless Clause.Pager (is_declared self.now at) 1 0 (unless Clause.Pager passes number entry None)) }
         ensures declared { OnOk result (is_declared self.now at ≡ true) }
         ensures passes { OnOk result (passes ≡ true) }
         ensures small { at < 2 ^ 38 }
     {
-        held(self.declared(at), 1, 0)?;
+        held(self.declared(at, entry), 1, 0)?;
         held(passes, number, entry.word() as u64)
     }
 
-    /// Whether the page of an address is declared.
-    fn declared(&self, at: GlobalAddr) -> bool
+    /// Whether the page of an address is declared: exactly there its entry is valid or on swap.
+    fn declared(&self, at: GlobalAddr, entry: Pte) -> bool
+        requires valid { IsValidFlat self.now }
+        requires entry { entry ≡ word_of self.now at }
         ensures value { result ≡ is_declared self.now at }
         ensures small { at < 2 ^ 38 }
     {
-        let page = at.page();
-        self.pages
-            .as_slice()
-            .iter()
-            .any(|declared| *declared == page)
+        // the address is read for its range alone
+        let _number = at.number();
+        entry.valid() || entry.on_swap()
     }
 
     /// The number of a declared page's swap slot: the page's position.

@@ -1,13 +1,16 @@
 //! What the cache lines of one board are known to hold.
 
 ghost use Rattle.std.specs.Prelude.{◌≡◌, ◌<◌, IfOk, length, replicate, None};
-ghost use Rattle.spur_flat.specs.TagLines.{tag_in_state, tag_index, standing_tag, tag_in, snooped_tags, with_tag};
-ghost use Rattle.spur_flat.specs.TagRules.{holds_page, is_tag_of_page};
+ghost use Rattle.spur_flat.specs.TagLines.{IsOfBlock, tag_in_state, tag_index, standing_tag, tag_in, snooped_tags, with_tag};
+ghost use Rattle.spur_flat.specs.TagRules.{holds_page};
 
 use crate::tag::Tag;
 use spur_snoop::{BlockState, BusKind, snooped};
 use std::alloc::{AllocError, Global};
 use std::marker::Model;
+
+/// The blocks of a page.
+const PAGE_BLOCKS: u64 = 128;
 
 /// The tags of one board's lines, at least one.
 ///
@@ -18,14 +21,15 @@ pub struct TagLines {
 }
 
 impl Model for TagLines {
-    ghost use Rattle.std.specs.Prelude.{List, Option, ◌<◌, length};
+    ghost use Rattle.std.specs.Prelude.{List, Option};
     ghost use Rattle.spur_flat.specs.declared.tag.Tag.{Tag};
+    ghost use Rattle.spur_flat.specs.TagLines.{AreInPlace};
 
     ghost Value = { List (Option Tag) };
 
     ghost view = { λ a. a.lines.items };
 
-    ghost invariant = { λ a. 0 < length a.lines.items };
+    ghost invariant = { λ a. AreInPlace a.lines.items };
 }
 
 impl TagLines {
@@ -56,8 +60,9 @@ impl TagLines {
         }
     }
 
-    /// Puts a tag, or nothing, on the line of a block.
+    /// Puts a tag of a block, or nothing, on the block's line.
     pub fn put(&mut self, block: u64, tag: Option<Tag>)
+        requires { IsOfBlock block tag }
         ensures { self.new ≡ with_tag self.old block tag }
     {
         let line = self.line_of(block);
@@ -74,11 +79,18 @@ impl TagLines {
         }
     }
 
-    /// Whether a line holds a block of a page.
+    /// Whether a line holds a block of a page: one of the 128 places of its blocks does.
     pub fn holds(&self, page: u32) -> bool
         ensures { result ≡ holds_page page self.now }
     {
-        self.lines.iter().any(|tag| is_of_page(tag, page))
+        // each tag is on its block's line, so no other line has a block of the page
+        let _ = &self.lines;
+        for j in 0..PAGE_BLOCKS {
+            if self.tag(page as u64 * PAGE_BLOCKS + j).is_some() {
+                return true;
+            }
+        }
+        false
     }
 
     /// The number of a block's line.
@@ -97,15 +109,5 @@ fn in_state(tag: Tag, state: BlockState) -> Option<Tag>
     match state {
         BlockState::Invalid => None,
         _ => Some(Tag { state, ..tag }),
-    }
-}
-
-/// Whether a line holds a block of a page, which has 128 blocks.
-fn is_of_page(tag: &Option<Tag>, page: u32) -> bool
-    ensures { result ≡ is_tag_of_page page tag.now }
-{
-    match tag {
-        Some(tag) => tag.block >> 7 == page as u64,
-        None => false,
     }
 }

@@ -5,7 +5,7 @@ ghost use Rattle.spur_addr.specs.Address.{block_of};
 ghost use Rattle.spur_flat.specs.Blocks.{IsOfBoards};
 ghost use Rattle.spur_flat.specs.Refused.{result_of};
 ghost use Rattle.spur_snoop.specs.Size.{IsBoardCount, IsLineCount};
-ghost use Rattle.spur_flat.specs.TagLines.{bus_on, dirtied_tag, each_from, lines_at, no_tags, restated_tag, snooped_board, standing_tag, tag_at, tags_on, with_tag_at};
+ghost use Rattle.spur_flat.specs.TagLines.{IsOfBlock, bus_on, dirtied_tag, each_from, lines_at, no_tags, restated_tag, snooped_board, standing_tag, tag_at, tags_on, with_tag_at};
 ghost use Rattle.spur_flat.specs.TagRules.{entry_state, holder_from, tags_refusal, unheld};
 ghost use Rattle.spur_flat.specs.Validity.{IsValidFlat};
 
@@ -211,7 +211,8 @@ impl Tags {
 
     /// Puts a tag, or nothing, on a board's line of a block.
     fn put(&mut self, board: u32, block: u64, tag: Option<Tag>)
-        requires { board < length self.old }
+        requires board { board < length self.old }
+        requires block { IsOfBlock block tag }
         ensures { self.new ≡ with_tag_at self.old board block tag }
     {
         self.boards[board as usize].put(block, tag);
@@ -219,6 +220,7 @@ impl Tags {
 
     /// Board `own` makes a transaction on a block, and then has `mine` on its line.
     fn transact(&mut self, own: u32, block: u64, kind: BusKind, mine: Option<Tag>)
+        requires { IsOfBlock block mine }
         ensures { self.new ≡ bus_on self.old own block kind mine }
     {
         see_all(&mut self.boards, own as usize, block, kind, mine);
@@ -227,6 +229,7 @@ impl Tags {
 
 /// All boards, where board `own` made a transaction.
 fn see_all(boards: &mut [TagLines], own: usize, block: u64, kind: BusKind, mine: Option<Tag>)
+    requires { IsOfBlock block mine }
     ensures { boards.new ≡ each_from (snooped_board own block kind mine) 0 boards.old }
 {
     for (k, lines) in boards.iter_mut().enumerate() {
@@ -236,6 +239,7 @@ fn see_all(boards: &mut [TagLines], own: usize, block: u64, kind: BusKind, mine:
 
 /// Board `k`, where board `own` made a transaction: the own board puts its tag, each other one sees the transaction.
 fn see(lines: &mut TagLines, k: usize, own: usize, block: u64, kind: BusKind, mine: Option<Tag>)
+    requires { IsOfBlock block mine }
     ensures { lines.new ≡ snooped_board own block kind mine k lines.old }
 {
     if k == own {

@@ -19,14 +19,14 @@ use Rattle.spur_flat.specs.Access.{grants}
 use Rattle.spur_flat.specs.TagLines.{filled_state, kind_of}
 use Rattle.spur_flat.specs.TagRules.{access_of, is_read}
 use Rattle.spur_bus.specs.declared.place.Place.{Place}
-use Rattle.spur_bus.specs.Boards.{line_of_block}
+use Rattle.spur_bus.specs.Boards.{line_of_block, restated_line}
 use Rattle.spur_bus.specs.Calls.{read_line}
 use Rattle.spur_bus.specs.Logical.{logical_block}
 use Rattle.spur_walk.specs.declared.looked.Looked.TheVariants.{Hit, Denied, NeedsDirty, NeedsClaim, Miss}
 use Rattle.spur_walk.specs.declared.plan.Plan.{Plan}
 use Rattle.spur_walk.specs.declared.plan.Plan.TheVariants as plan
 use Rattle.spur_walk.specs.Look.{look_of}
-use Rattle.spur_walk.specs.Steps.{restated, stepped}
+use Rattle.spur_walk.specs.Steps.{stepped}
 use Rattle.spur_walk.specs.Tables.{block_address, logical_flat, root_at}
 use Rattle.spur_walk.specs.Asked.{AsksAsTheTable, FoundPlanIsTheTables, IsCalled, LookIsTheTables, PagePlanIsTheTables, PlanIsTheTables, asked_by, asked_kind, filled_for, line_state, looked_for, made_state}
 use Rattle.spur_walk.proofs.PlannedFacts.{access_holds, filling_holds, page_holds}
@@ -166,18 +166,18 @@ alone_is_enough Read = refl
 alone_is_enough Write = refl
 
 claim_does : (caches : List (List (Option Line))) (b g : ℕ) (need : Need) (line : Line) → line_of_block caches b g ≡ Some line → asked_of line.state need ≡ want.Claim
-    → AsksAsTheTable caches (restated caches b g bus.Claim OwnedExclusive (line_of_block caches b g)) b g need want.Claim
+    → AsksAsTheTable caches (restated_line caches b g bus.Claim OwnedExclusive (line_of_block caches b g)) b g need want.Claim
 claim_does caches b g need line is table =
-    let called : IsCalled caches (restated caches b g bus.Claim OwnedExclusive (line_of_block caches b g)) b g need bus.Claim = record {
+    let called : IsCalled caches (restated_line caches b g bus.Claim OwnedExclusive (line_of_block caches b g)) b g need bus.Claim = record {
       line = record line { state = OwnedExclusive };
       block = found_tag (get_or caches b []) g line is;
       state = refl;
       enough = alone_is_enough need;
-      turns = ap (restated caches b g bus.Claim OwnedExclusive) is;
+      turns = ap (restated_line caches b g bus.Claim OwnedExclusive) is;
     } in
     record {
       table = ap (λ (o : Option Line). asked_of (line_state o) need) is ∙ table;
-      calls = λ (kind : BusKind) (k : Some bus.Claim ≡ Some kind). subst (IsCalled caches (restated caches b g bus.Claim OwnedExclusive (line_of_block caches b g)) b g need) (some_kind bus.Claim kind k) called;
+      calls = λ (kind : BusKind) (k : Some bus.Claim ≡ Some kind). subst (IsCalled caches (restated_line caches b g bus.Claim OwnedExclusive (line_of_block caches b g)) b g need) (some_kind bus.Claim kind k) called;
       still = λ (none : Some bus.Claim ≡ None). absurd (a_kind bus.Claim none);
     }
 
@@ -223,7 +223,7 @@ asks_none : (caches : List (List (Option Line))) (memory : List ℕ) (b g : ℕ)
 asks_none caches memory b g need layer asked p none h = absurd (no_want (asked_by layer p) asked none h)
 
 claim_asked : (caches : List (List (Option Line))) (b at : ℕ) (need : Need) (o : Option Line) → IsCache (get_or caches b []) → line_of_block caches b at ≡ o → look_of o need ≡ NeedsClaim
-    → AsksAsTheTable caches (restated caches b at bus.Claim OwnedExclusive (line_of_block caches b at)) b at need want.Claim
+    → AsksAsTheTable caches (restated_line caches b at bus.Claim OwnedExclusive (line_of_block caches b at)) b at need want.Claim
 claim_asked caches b at need None cache is seen = cc
 claim_asked caches b at need (Some line) cache is seen =
     claim_does caches b at need line is (claim_asks line need (found_held (get_or caches b []) at line cache is).valid (answers_as line need NeedsClaim seen))

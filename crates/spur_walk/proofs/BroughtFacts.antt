@@ -22,7 +22,7 @@ use Rattle.spur_flat.specs.TagLines.{filled_state, kind_of}
 use Rattle.spur_flat.specs.TagRules.{access_of, is_read, may_fill}
 use Rattle.spur_bus.specs.declared.place.Place.{Place}
 use Rattle.spur_bus.specs.Agrees.{Agrees}
-use Rattle.spur_bus.specs.Boards.{line_in, line_of, line_of_block, turned}
+use Rattle.spur_bus.specs.Boards.{line_in, line_of, line_of_block, turned, restated_line}
 use Rattle.spur_bus.specs.Calls.{read_line}
 use Rattle.spur_bus.specs.Logical.{logical_block}
 use Rattle.spur_bus.proofs.CallFacts.{is_here}
@@ -30,7 +30,7 @@ use Rattle.spur_bus.proofs.FromFacts.{From, Fresh, Mine, Other, from}
 use Rattle.spur_bus.proofs.LineFacts.{set_away}
 use Rattle.spur_walk.specs.declared.plan.Plan.{Plan}
 use Rattle.spur_walk.specs.declared.plan.Plan.TheVariants as plan
-use Rattle.spur_walk.specs.Steps.{IsFilled, MayDo, MayFill, OfPage, OfRoot, OfTable, restated, stepped}
+use Rattle.spur_walk.specs.Steps.{IsFilled, MayDo, MayFill, OfPage, OfRoot, OfTable, stepped}
 use Rattle.spur_walk.specs.Tables.{block_address, logical_flat}
 use Rattle.spur_walk.proofs.FillFacts.{start_from_root, start_from_table}
 use Rattle.spur_walk.proofs.PlanFacts.{may_do, may_do_page}
@@ -78,7 +78,7 @@ turned_had caches own g kind fresh i s l agree within tag h = turned_in caches o
 
 -- a line in another state
 restated_had : (caches : List (List (Option Line))) (b g : ℕ) (kind : BusKind) (state : BlockState) (o : Option Line) (i s : ℕ) (l : Line) → Agrees caches → b < length caches → line_of_block caches b g ≡ o
-    → line_in (restated caches b g kind state o) i s ≡ Some l → HadBlock caches i s l
+    → line_in (restated_line caches b g kind state o) i s ≡ Some l → HadBlock caches i s l
 restated_had caches b g kind state None i s l agree within is h = had caches i s l h
 restated_had caches b g kind state (Some line) i s l agree within is h =
     let here = is_here caches b g line within is in

@@ -6,8 +6,8 @@ use Rattle.std.proofs.lemmas.List.{length-set}
 use Rattle.spur_addr.specs.Address.{block_of, entry_address_of}
 use Rattle.spur_addr.specs.PageEntry.{is_valid, is_dirty, is_leaving}
 use Rattle.spur_cache.specs.declared.line.Line.{Line}
-use Rattle.spur_cache.specs.Lines.{IsCache, dirtied, found, line_at, not_tagged, index_of, occupant, tagged, victim_of, with_dirty, with_line}
-use Rattle.spur_cache.proofs.CacheFacts.{changed_is, found_tag, tagged_there}
+use Rattle.spur_cache.specs.Lines.{IsCache, changed, changed_found, dirtied, found, line_at, not_tagged, index_of, occupant, tagged, victim_of, with_dirty, with_line}
+use Rattle.spur_cache.proofs.CacheFacts.{found_tag, tagged_there}
 use Rattle.spur_snoop.specs.declared.BlockState.{BlockState}
 use Rattle.spur_snoop.specs.declared.BlockState.TheVariants.{UnOwned, OwnedExclusive}
 use Rattle.spur_snoop.specs.declared.BusKind.{BusKind}
@@ -347,12 +347,19 @@ soon_fills : (e r : Option Line) (x : Bool) → fills_by e r (if not x then Need
 soon_fills e r true = omega arith
 soon_fills e r false = omega arith
 
+-- a line put where it stands, with a change that keeps its tag
+changed_there : (lines : List (Option Line)) (g : ℕ) (change : Line → Line) (line : Line) → found lines g ≡ Some line → (change line).tag ≡ block_of g
+    → with_line lines (change line) ≡ changed lines g change
+changed_there lines g change line is tag =
+    ap (λ (n : ℕ). slice_set lines (index_of lines n) (Some (change line))) tag
+    ∙ ap (changed_found lines (index_of lines (block_of g)) change) (sym is)
+
 refresh_as : (own : List (Option Line)) (at : ℕ) (need : Need) (line : Line) → IsCache own → found own at ≡ Some line → Answers line need NeedsDirty → Less 2 1 (with_dirty own at) at need false
 refresh_as own at Read line cache is answer = elim answer [ ]
 refresh_as own at Write line cache is (Cleans granted clear) =
     let fresh : Line = dirtied line in
     let after : List (Option Line) = with_dirty own at in
-    let same : with_line own fresh ≡ after = changed_is own at dirtied line is (found_tag own at line is) in
+    let same : with_line own fresh ≡ after = changed_there own at dirtied line is (found_tag own at line is) in
     let there : found after at ≡ Some fresh = ap (λ (ls : List (Option Line)). found ls at) (sym same) ∙ found_same own fresh at cache (found_tag own at line is) in
     let seen : look_of (found after at) Write ≡ (if not (is_exclusive line.state) then NeedsClaim else Hit) =
     ap (λ (o : Option Line). look_of o Write) there ∙ ap (λ (t : Bool). if not t then Denied else if not (is_exclusive line.state) then NeedsClaim else Hit) granted in

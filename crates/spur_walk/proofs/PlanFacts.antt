@@ -25,6 +25,7 @@ use Rattle.spur_flat.specs.TagRules.{access_of, is_read, may_claim, may_fill}
 use Rattle.spur_bus.specs.declared.place.Place.{Place}
 use Rattle.spur_bus.specs.Boards.{line_of_block}
 use Rattle.spur_bus.specs.Agrees.{Agrees}
+use Rattle.spur_flat.proofs.AccessFacts.{fault_under-need}
 use Rattle.spur_walk.specs.declared.looked.Looked.{Looked}
 use Rattle.spur_walk.specs.declared.looked.Looked.TheVariants.{Hit, Denied, NeedsDirty, NeedsClaim, Miss}
 use Rattle.spur_walk.specs.declared.plan.Plan.TheVariants as plan
