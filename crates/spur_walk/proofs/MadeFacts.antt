@@ -1,7 +1,6 @@
 -- The entries that steps of the walk make.
-use Rattle.std.proofs.Common.{◌≡◌, ◌∙◌, ℕ, ◌+◌, ◌*◌, ◌/◌, ◌%◌, ◌^◌, ◌<◌, Bool, if◌then◌else◌, ap, refl, subst, List, [], ◌∷◌, ◌++◌, filter, get_or, length, Option, Some, arith}
+use Rattle.std.proofs.Common.{◌≡◌, ℕ, ◌*◌, ◌^◌, ◌<◌, refl, subst, List, [], get_or, length, Option, Some, arith}
 use Rattle.std.specs.Prelude.{⊤}
-use Rattle.std.specs.List.{AllByRecursion}
 use Rattle.spur_addr.specs.Address.{block_start_of, entry_address_of}
 use Rattle.spur_cache.specs.declared.line.Line.{Line}
 use Rattle.spur_cache.specs.Lines.{IsCache, victim_of}
@@ -10,7 +9,6 @@ use Rattle.spur_snoop.specs.declared.Need.TheVariants.{Read, Write}
 use Rattle.spur_flat.specs.declared.entry.Entry.{Entry}
 use Rattle.spur_flat.specs.declared.entry.Layer.{Layer}
 use Rattle.spur_flat.specs.declared.entry.Layer.TheVariants.{RootBlock, PteBlock, UserBlock}
-use Rattle.spur_flat.specs.History.{is_own, own_entries}
 use Rattle.spur_bus.specs.declared.place.Place.{Place}
 use Rattle.spur_walk.specs.declared.plan.Plan.{Plan}
 use Rattle.spur_walk.specs.Plan.{page_plan, access_plan, filling}

@@ -1,7 +1,6 @@
 -- What a step leaves.
-use Rattle.std.proofs.Common.{◌≡◌, ◌≢◌, ◌∙◌, ℕ, ◌+◌, ◌*◌, ◌/◌, ◌^◌, ◌<◌, ◌≤◌, ◌==◌, ◌&&◌, Bool, true, false, not, if◌then◌else◌, ap, sym, refl, subst, List, [], ◌∷◌, get_or, length, map, slice_set, Option, Some, None, arith, zero-add}
+use Rattle.std.proofs.Common.{◌≡◌, ◌∙◌, ℕ, ◌+◌, ◌*◌, ◌/◌, ◌^◌, ◌<◌, ◌≤◌, ◌&&◌, Bool, true, false, not, ap, sym, refl, subst, List, [], get_or, length, slice_set, Option, Some, None, arith}
 use Rattle.std.proofs.Math.ListN.{set}
-use Rattle.std.proofs.lemmas.Bool.{eq-eqb, ne_eqb}
 use Rattle.std.proofs.lemmas.List as L
 use Rattle.spur_addr.specs.Address.{block_of, block_start_of, entry_address_of, table_start, root_start}
 use Rattle.spur_addr.specs.PageEntry.{is_dirty, is_leaving}
@@ -27,12 +26,12 @@ use Rattle.spur_flat.specs.TagLines.{each_from, filled_state, kind_of, tags_on}
 use Rattle.spur_flat.specs.TagLines as T
 use Rattle.spur_flat.specs.TagRules.{dirty_copy, tag_condition, state_number}
 use Rattle.spur_bus.specs.declared.place.Place.{Place}
-use Rattle.spur_bus.specs.Boards.{line_in, line_of_block, restated_line, turned, turned_lines}
+use Rattle.spur_bus.specs.Boards.{line_in, line_of_block, turned, turned_lines}
 use Rattle.spur_bus.specs.Logical.{logical_block, logical_words}
 use Rattle.spur_bus.specs.Agrees.{Agrees, AgreesWithMemory}
 use Rattle.spur_bus.specs.Calls.{HasLine, KeepsAllWords, claimed, shared_again, written_back, MovesTags, MovesTagsAs, cache_tags, line_count, read_line, tag_of, tags_of}
 use Rattle.spur_bus.proofs.Turn.{CameFrom}
-use Rattle.spur_bus.proofs.EachFacts.{length-each, set_each}
+use Rattle.spur_bus.proofs.EachFacts.{length-each}
 use Rattle.spur_bus.proofs.FromFacts.{From, Fresh, Mine, Other, from}
 use Rattle.spur_bus.proofs.AgreesFacts.{other_owned}
 use Rattle.spur_bus.proofs.BoardFacts.{lines_here, restated_is}

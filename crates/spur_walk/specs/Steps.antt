@@ -1,5 +1,5 @@
 -- A step, by its plan: what it needs, its answer, and what it leaves.
-use Rattle.std.specs.Prelude.{ℕ, ◌≡◌, ◌<◌, ◌≤◌, ◌==◌, ◌+◌, ◌^◌, ⊤, true, false, if◌then◌else◌, List, [], get_or, length, slice_index, slice_set, Option, Some, None}
+use Rattle.std.specs.Prelude.{ℕ, ◌≡◌, ◌<◌, ◌≤◌, ◌+◌, ◌^◌, ⊤, true, false, List, [], get_or, length, slice_index, slice_set, Option, Some, None}
 use Rattle.spur_addr.specs.Address.{block_start_of, entry_address_of, table_start, root_start}
 use Rattle.spur_addr.specs.PageEntry.{is_valid, is_dirty, is_leaving}
 use Rattle.spur_cache.specs.declared.line.Line.{Line}
