@@ -30,7 +30,7 @@ use Rattle.spur_flat.specs.Clean.{AreClean}
 use Rattle.spur_pager.specs.Stored.{HitStandsAgain}
 use Rattle.spur_pager.proofs.AgainFacts.{standing_as}
 use Rattle.spur_pager.proofs.EntryFacts.{page_user, small_user}
-use Rattle.spur_pager.proofs.PageWordFacts.{page_word}
+use Rattle.spur_flat.proofs.PageWordFacts.{page_word}
 use Rattle.spur_pager.proofs.PlaceFacts.{word_page}
 
 -- what a frame holds is a page below segment 255, whatever number the frame has

@@ -16,7 +16,7 @@ pub(crate) struct Pages {
 
 impl Model for Pages {
     ghost use Rattle.std.specs.Prelude.{List, ℕ};
-    ghost use Rattle.spur_swap.specs.Pages.{ArePages};
+    ghost use Rattle.spur_swap.specs.Pages.{AreWholePages};
 
     ghost Value = { List ℕ };
 

@@ -1,10 +1,10 @@
-use Rattle.std.proofs.Common.{◌≡◌, ◌<◌, ◌++◌, ◌∷◌, ◌∙◌, [], ℕ, ap, map, refl, subst, sym}
+use Rattle.std.proofs.Common.{◌<◌, ◌++◌, ◌∷◌, ◌∙◌, [], ℕ, ap, refl, subst, sym}
 use Rattle.std.proofs.lemmas.List.{length-map}
 use Rattle.spur_addr.specs.Address.{block_start_of}
 use Rattle.spur_flat.specs.declared.entry.Entry.{Entry}
 use Rattle.spur_flat.specs.declared.entry.Entry.TheVariants.{BlockFlush}
 use Rattle.spur_bus.specs.Calls.{MovesTags}
-use Rattle.spur_pager.specs.View.{View, seen, view_of}
+use Rattle.spur_pager.specs.View.{View, seen}
 use Rattle.spur_pager.proofs.DropFacts.{IsDropped, drops}
 use Rattle.spur_pager.proofs.flush.flush_block.Goals as goal
 

@@ -10,7 +10,7 @@ use Rattle.spur_bus.proofs.BoardFacts.{lines_here}
 use Rattle.spur_bus.proofs.LineFacts.{some_same}
 use Rattle.spur_walk.specs.Tables.{block_address}
 use Rattle.spur_pager.specs.Drops.{DropsBlock, IsLeavingBlock}
-use Rattle.spur_pager.specs.View.{View, seen, view_of}
+use Rattle.spur_pager.specs.View.{View, seen}
 use Rattle.spur_pager.proofs.EntryFacts.{page_again}
 use Rattle.spur_pager.proofs.FlushingFacts.{MayFlush, flushing_none, flushing_then, line_gone, may_still, next_line, one_more}
 use Rattle.spur_bus.proofs.LensFacts.{only_lines-same, only_lines-then}

@@ -1,7 +1,7 @@
 use Rattle.std.proofs.Common.{◌≡◌, ◌<◌, length, map}
 use Rattle.spur_pager.specs.Flushes.{AreFlushed, IsFlushing, places_in}
 use Rattle.spur_cache.specs.Lens.{OnlyLines}
-use Rattle.spur_pager.specs.View.{seen, view_of}
+use Rattle.spur_pager.specs.View.{seen}
 use Rattle.spur_pager.proofs.flush.flush_cache.Given as goal
 
 -- the places of the lines that are left in this cache are those that the loop has still to come to

@@ -1,6 +1,6 @@
-use Rattle.std.proofs.Common.{ℕ, ◌≡◌, ◌<◌, ◌≤◌, ◌∙◌, arith, length, map, refl, subst, sym}
+use Rattle.std.proofs.Common.{ℕ, ◌≡◌, ◌<◌, ◌≤◌, ◌∙◌, arith, length, refl, subst, sym}
 use Rattle.std.proofs.lemmas.List.{length-map}
-use Rattle.spur_pager.specs.View.{View, seen, view_of}
+use Rattle.spur_pager.specs.View.{View, seen}
 use Rattle.spur_pager.proofs.FlushingFacts.{MayFlush, flushing_none, flushing_then, may_still, page_flushed}
 use Rattle.spur_bus.proofs.LensFacts.{only_lines-same, only_lines-then}
 use Rattle.spur_pager.proofs.flush.flush_page.Goals as goal

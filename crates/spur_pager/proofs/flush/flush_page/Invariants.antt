@@ -1,7 +1,7 @@
 use Rattle.std.proofs.Common.{◌≡◌, ◌<◌, length, map}
 use Rattle.spur_pager.specs.Flushes.{AreFlushed, IsFlushing}
 use Rattle.spur_cache.specs.Lens.{OnlyLines}
-use Rattle.spur_pager.specs.View.{seen, view_of}
+use Rattle.spur_pager.specs.View.{seen}
 use Rattle.spur_pager.proofs.flush.flush_page.Given as goal
 
 -- the boards before this one have no line of the page any more
