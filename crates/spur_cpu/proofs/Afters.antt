@@ -33,7 +33,7 @@ tested true x y e = refl
 tested false x y e = absurd cc
 
 module _ {S : Type 0} (m : Meaning S) (segs : List ℕ) (budget : ℕ) where
-  not_local : (c d : Course S) (w : Want) (s : Option Stop) (e : Entry) → carry_want m segs budget c w s e ≡ Some d → is_local m segs budget w s ≡ false
+  pub not_local : (c d : Course S) (w : Want) (s : Option Stop) (e : Entry) → carry_want m segs budget c w s e ≡ Some d → is_local m segs budget w s ≡ false
   not_local c d Local None e h = absurd cc
   not_local c d Local (Some s) e h = refl
   not_local c d (Access kind va value) s e h = refl

@@ -22,7 +22,7 @@ none_wants Ended budget n e q = absurd cc
 not_met : (n budget : ℕ) → (if n == budget then Some Rattle.spur_cpu.specs.After.Spent else None) ≡ None → n ≢ budget
 not_met n budget e q = grind (arith, nat_tests, e, q)
 
-none_left : (w : Want) (budget n : ℕ) → ending_at w budget n ≡ None → n ≢ budget
+pub none_left : (w : Want) (budget n : ℕ) → ending_at w budget n ≡ None → n ≢ budget
 none_left Local budget n e = not_met n budget e
 none_left (Access kind va value) budget n e = not_met n budget e
 none_left Ended budget n e = absurd cc
@@ -42,13 +42,13 @@ never_faulty (Access k va value) budget n kind at e = let is = spent_is (n == bu
 never_faulty Ended budget n kind at e = absurd cc
 
 module _ {S : Type 0} (m : Meaning S) (segs : List ℕ) (budget : ℕ) where
-  local_going : (w : Want) (s : Option Stop) → is_local m segs budget w s ≡ true → s ≡ None
+  pub local_going : (w : Want) (s : Option Stop) → is_local m segs budget w s ≡ true → s ≡ None
   local_going Local None e = refl
   local_going Local (Some why) e = absurd cc
   local_going (Access kind va value) s e = absurd cc
   local_going Ended s e = absurd cc
 
-  entry_going : (c d : Course S) (w : Want) (s : Option Stop) (e : Entry) → carry_want m segs budget c w s e ≡ Some d → s ≡ None
+  pub entry_going : (c d : Course S) (w : Want) (s : Option Stop) (e : Entry) → carry_want m segs budget c w s e ≡ Some d → s ≡ None
   entry_going c d Local s e h = absurd cc
   entry_going c d Ended s e h = absurd cc
   entry_going c d (Access kind va value) None e h = refl
@@ -60,7 +60,7 @@ module _ {S : Type 0} (m : Meaning S) (segs : List ℕ) (budget : ℕ) where
   no_entry : (c d : Course S) (why : Stop) (e : Entry) → c.ending ≡ Some why → carry_entry m segs budget c e ≡ Some d → ⊥
   no_entry c d why e h step = let none = entry_going c d (m.wants c.cpu) c.ending e step in absurd cc
 
-  uses_nothing : (c d : Course S) (es : List Entry) (n : ℕ) (why : Stop) → c.ending ≡ Some why → after m segs budget c es n ≡ Some d → UsesNothing m c d es n
+  pub uses_nothing : (c d : Course S) (es : List Entry) (n : ℕ) (why : Stop) → c.ending ≡ Some why → after m segs budget c es n ≡ Some d → UsesNothing m c d es n
   uses_nothing c d [] zero why h r = record { course = sym (some_is c d r); entries = refl; completed = refl }
   uses_nothing c d [] (suc n) why h r =
       let b = bind_some (carry_local m segs budget c) (λ x. after m segs budget x [] n) d r in

@@ -19,10 +19,10 @@ faulted true false x y z e = inr cc
 faulted false k x y z e = absurd cc
 
 module _ {S : Type 0} (m : Meaning S) (segs : List ℕ) (budget : ℕ) where
-  local_count : (c d : Course S) → carry_local m segs budget c ≡ Some d → d.retired ≡ c.retired + 1
+  pub local_count : (c d : Course S) → carry_local m segs budget c ≡ Some d → d.retired ≡ c.retired + 1
   local_count c d h = let e = passed (wants_local m segs budget c) (retire m segs budget c (m.local c.cpu)) d h in ap (λ (x : Course S). x.retired) (sym e)
 
-  want_done : (c d : Course S) (w : Want) (s : Option Stop) (e : Entry) → carry_want m segs budget c w s e ≡ Some d → is_done e ≡ true → d.retired ≡ c.retired + 1
+  pub want_done : (c d : Course S) (w : Want) (s : Option Stop) (e : Entry) → carry_want m segs budget c w s e ≡ Some d → is_done e ≡ true → d.retired ≡ c.retired + 1
   want_done c d Local None e h q = absurd cc
   want_done c d Local (Some s) e h q = absurd cc
   want_done c d Ended None e h q = absurd cc
@@ -33,7 +33,7 @@ module _ {S : Type 0} (m : Meaning S) (segs : List ℕ) (budget : ℕ) where
   want_done c d (Access kind va value) None (Tas board at v) h q = ap (λ (x : Course S). x.retired) (sym (passed _ _ d h))
   want_done c d (Access kind va value) None e h q = absurd cc
 
-  want_fault : (c d : Course S) (w : Want) (s : Option Stop) (e : Entry) → carry_want m segs budget c w s e ≡ Some d → is_done e ≡ false → d.retired ≡ c.retired
+  pub want_fault : (c d : Course S) (w : Want) (s : Option Stop) (e : Entry) → carry_want m segs budget c w s e ≡ Some d → is_done e ≡ false → d.retired ≡ c.retired
   want_fault c d Local None e h q = absurd cc
   want_fault c d Local (Some s) e h q = absurd cc
   want_fault c d Ended None e h q = absurd cc

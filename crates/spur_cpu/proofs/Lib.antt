@@ -1,4 +1,6 @@
 pub mod Afters
 pub mod Led
 pub mod Going
+pub mod ToAccess
+pub mod Instructions
 pub mod Zeros

@@ -1,6 +1,6 @@
 -- A board's state after its program has used a list of its own entries and completed a number of instructions: one
 -- definition over any processor's meaning.
-use Rattle.std.specs.Prelude.{◌≡◌, ℕ, zero, suc, ◌+◌, ◌==◌, ◌&&◌, Bool, true, false, List, [], ◌∷◌, Option, Some, None, if◌then◌else◌, option_and_then}
+use Rattle.std.specs.Prelude.{◌≡◌, ◌<◌, ℕ, zero, suc, ◌+◌, ◌==◌, ◌&&◌, Bool, true, false, List, [], ◌∷◌, Option, Some, None, if◌then◌else◌, option_and_then}
 use Rattle.spur_addr.specs.Address.{global_of}
 use Rattle.spur_flat.specs.declared.access.AccessKind.{AccessKind}
 use Rattle.spur_flat.specs.declared.access.AccessKind.TheVariants as access
@@ -27,6 +27,10 @@ pub record Course (S : Type 0) : Type 0 where
 -- a board at its beginning
 abbrev pub begun : {S : Type 0} → S → Course S
 begun s = record { cpu = s; retired = 0; ending = None }
+
+-- a board without an ending has some of its budget left
+abbrev pub HasBudgetLeft : {S : Type 0} → ℕ → Course S → Type 0
+HasBudgetLeft budget c = c.ending ≡ None → c.retired < budget
 
 abbrev pub same_access : AccessKind → AccessKind → Bool
 same_access access.Load access.Load = true

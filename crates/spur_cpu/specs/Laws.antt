@@ -4,7 +4,7 @@ use Rattle.spur_flat.specs.declared.access.FaultKind.{FaultKind}
 use Rattle.spur_flat.specs.declared.entry.Entry.{Entry}
 use Rattle.spur_cpu.specs.declared.cpu.Want.TheVariants.{Ended}
 use Rattle.spur_cpu.specs.Meaning.{Meaning}
-use Rattle.spur_cpu.specs.After.{Stop, Halted, Faulty, Course, IsLed, after, begun, carry_entry, carry_local}
+use Rattle.spur_cpu.specs.After.{Stop, Halted, Faulty, Course, HasBudgetLeft, IsLed, after, begun, carry_entry, carry_local}
 
 module _ {S : Type 0} (m : Meaning S) where
   -- a piece of entries and instructions that leads to a course, and what follows from there, are one piece
@@ -36,7 +36,7 @@ module _ {S : Type 0} (m : Meaning S) where
   pub record IsOnItsWay (budget : ℕ) (d : Course S) (n : ℕ) : Type 0 where
     pub counted : d.retired ≡ n
     pub wants : d.ending ≡ None → m.wants d.cpu ≢ Ended
-    pub left : d.ending ≡ None → d.retired < budget
+    pub left : HasBudgetLeft budget d
     pub halted : d.ending ≡ Some Halted → m.wants d.cpu ≡ Ended
     pub faulted : (kind : FaultKind) (at : ℕ) → d.ending ≡ Some (Faulty kind at) → m.wants d.cpu ≡ Ended
 

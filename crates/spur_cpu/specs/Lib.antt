@@ -6,4 +6,6 @@ pub mod PlainCpus
 pub mod PlainLaws
 pub mod After
 pub mod Laws
+pub mod Onward
+pub mod OnwardLaws
 pub mod ZeroRegister

@@ -11,5 +11,8 @@ mod registers;
 mod step;
 
 pub use cpu::{Answer, Cpu, Want};
-pub use laws::{ended_uses_nothing, going_on, leads_on, pieces, zero_stays};
+pub use laws::{
+    carried_by_instructions, carried_to_access, ended_uses_nothing, going_on, leads_on, pieces,
+    zero_stays,
+};
 pub use plain::PlainCpu;
