@@ -27,7 +27,7 @@ use Rattle.spur_walk.proofs.TableFacts.{entry_word}
 use Rattle.spur_pager.specs.declared.change.Change.{Change}
 use Rattle.spur_flat.specs.Past.{Past}
 use Rattle.spur_pager.specs.Acts.{Hold, with_entry_word}
-use Rattle.spur_pager.specs.Changes.{Changes, MayChange, changed_word, entry_for, entry_word}
+use Rattle.spur_pager.specs.Changes.{Changes, MayChange, changed_word, entry_for, hold_entry}
 use Rattle.spur_pager.specs.Fetch.{Fetches}
 use Rattle.spur_walk.proofs.OpenedFacts.{small_length}
 use Rattle.spur_pager.proofs.OptionFacts.{some_is}
@@ -54,7 +54,7 @@ ready_there caches memory b g ready = let has = ready_has caches memory b g read
 
 -- the word that the cache has of it is that of the logical memory
 pub ready_word : (caches : List (List (Option Line))) (memory : List ℕ) (b g : ℕ) → MayWalk caches memory → b < length caches → g < table_start → page_plan caches memory b g ≡ plan.Ready
-    → lines.word_in (line_of_block caches b (entry_address_of g)) (entry_address_of g) ≡ entry_word (record { caches = caches; memory = memory }) g
+    → lines.word_in (line_of_block caches b (entry_address_of g)) (entry_address_of g) ≡ hold_entry (record { caches = caches; memory = memory }) g
 ready_word caches memory b g may within user ready =
     let has = ready_has caches memory b g ready in
     ap (λ (o : Option Line). lines.word_in o (entry_address_of g)) has.there ∙ sym (entry_word caches memory b g has.line may within user has.there)
@@ -78,12 +78,12 @@ written_boards lines_of with_lines given boards b g at word d y within at_is is 
     ∙ ap (λ (n : ℕ). with_word (get_or (map lines_of boards) b []) n word) at_is)
 
 pub all_changed : (b g : ℕ) (change : Change) (from mid to : Hold) (before past after : Past) (word : ℕ) (e : Entry) → b < length from.caches → g < table_start → MayChange b g change from → Fetches b g from before mid past
-    → word ≡ changed_word change (entry_word mid g) → to.caches ≡ with_entry_word mid.caches b g word → to.memory ≡ mid.memory → e ≡ entry_for change b g → after.entries ≡ past.entries ++ e ∷ [] → after.room + 1 ≡ past.room
+    → word ≡ changed_word change (hold_entry mid g) → to.caches ≡ with_entry_word mid.caches b g word → to.memory ≡ mid.memory → e ≡ entry_for change b g → after.entries ≡ past.entries ++ e ∷ [] → after.room + 1 ≡ past.room
     → Changes b g change from before to after
 all_changed b g change from mid to before past after word e within user may f word_is caches memory e_is entries room =
     let here : b < length mid.caches = subst (λ (n : ℕ). b < n) (sym f.leads.boards) within in
     let has = ready_has mid.caches mid.memory b g f.fetch.ready in
-    let new : ℕ = changed_word change (entry_word mid g) in
+    let new : ℕ = changed_word change (hold_entry mid g) in
     let now : to.caches ≡ with_entry_word mid.caches b g new = caches ∙ ap (with_entry_word mid.caches b g) word_is in
     let past_room : past.room + length f.fetched ≡ before.room = f.room in
     let long : length (f.fetched ++ entry_for change b g ∷ []) ≡ length f.fetched + 1 = small_length f.fetched (entry_for change b g) in

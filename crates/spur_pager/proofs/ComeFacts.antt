@@ -25,7 +25,7 @@ use Rattle.spur_pager.specs.View.{View}
 use Rattle.spur_pager.specs.Stand.{AreFramed, Stands, flat_in, standing_flat, with_told}
 use Rattle.spur_flat.specs.Clean.{AreClean}
 use Rattle.spur_pager.specs.Acts.{Hold, Loaded, Writes, loaded_hold}
-use Rattle.spur_pager.specs.Changes.{Changes, MayChange, changed_word, entry_word}
+use Rattle.spur_pager.specs.Changes.{Changes, MayChange, changed_word, hold_entry}
 use Rattle.spur_pager.specs.Drops.{IsUnheld}
 use Rattle.spur_pager.specs.Moves.{ComesIn, MayComeIn}
 use Rattle.spur_pager.specs.Served.{hold_of, tells}
@@ -185,7 +185,7 @@ module _ (w : View) (b frame page slot : ℕ) (may : MayComeIn w b frame page sl
     e = PageIn b g frame
 
     -- the word of the entry, as the state that stood has it
-    word_from : (rest : Flat) → Stands rest w → entry_word from g ≡ word_of (standing_flat rest w) g
+    word_from : (rest : Flat) → Stands rest w → hold_entry from g ≡ word_of (standing_flat rest w) g
     word_from rest st = (same rest st).entry g user
 
     new_words : (rest : Flat) → Stands rest w → logical_words v.caches v.memory ≡ (placed (put (standing_flat rest w) frame words) g (brought_entry frame (word_of (standing_flat rest w) g))).words

@@ -20,7 +20,7 @@ use Rattle.spur_pager.specs.declared.change.Change.TheVariants.{Referenced, Dirt
 use Rattle.spur_pager.specs.View.{View}
 use Rattle.spur_pager.specs.Stand.{Stands, entry_in, flat_in, standing_flat}
 use Rattle.spur_pager.specs.Acts.{Writes}
-use Rattle.spur_pager.specs.Changes.{changed_word, entry_for, entry_word}
+use Rattle.spur_pager.specs.Changes.{changed_word, entry_for, hold_entry}
 use Rattle.spur_pager.specs.Room.{entry_room}
 use Rattle.spur_pager.specs.Served.{HasFault, ServesAs, hold_of, word_after}
 use Rattle.spur_pager.proofs.ServiceFacts.{entry_at, same_entry_address, served_as}
@@ -107,7 +107,7 @@ reference_may w some b at st within user f =
       user = user_g;
       starts = page_address_starts (page_of at);
       within = within;
-      valid = (and_parts (is_valid (entry_word (hold_of w) g)) (not (is_referenced (entry_word (hold_of w) g))) (here some st)).0;
+      valid = (and_parts (is_valid (hold_entry (hold_of w) g)) (not (is_referenced (hold_entry (hold_of w) g))) (here some st)).0;
       allowed = λ (rest : Flat) (s : Stands rest w).
           let F : Flat = standing_flat rest w in
           record { declared = valid_declared F g s.valid user_g ((and_parts (is_valid (word_of F g)) (not (is_referenced (word_of F g))) (here rest s)).0); entry = here rest s };
@@ -124,8 +124,8 @@ dirty_may w some b at st within user f =
       user = user_g;
       starts = page_address_starts (page_of at);
       within = within;
-      valid = (and_parts (is_valid (entry_word (hold_of w) g)) (not (is_dirty (entry_word (hold_of w) g)))
-          ((and_parts (is_valid (entry_word (hold_of w) g) && not (is_dirty (entry_word (hold_of w) g))) (is_read_write (protection_of (entry_word (hold_of w) g))) (here some st)).0)).0;
+      valid = (and_parts (is_valid (hold_entry (hold_of w) g)) (not (is_dirty (hold_entry (hold_of w) g)))
+          ((and_parts (is_valid (hold_entry (hold_of w) g) && not (is_dirty (hold_entry (hold_of w) g))) (is_read_write (protection_of (hold_entry (hold_of w) g))) (here some st)).0)).0;
       allowed = λ (rest : Flat) (s : Stands rest w).
           let F : Flat = standing_flat rest w in
           record {

@@ -14,7 +14,7 @@ use Rattle.spur_pager.specs.declared.change.Change.{Change}
 use Rattle.spur_pager.specs.declared.change.Change.TheVariants.{Unreferenced, Leaving}
 use Rattle.spur_pager.specs.View.{View}
 use Rattle.spur_pager.specs.Stand.{AreFramed, FrameHolds, Stands, entry_in, standing_flat}
-use Rattle.spur_pager.specs.Changes.{Changes, MayChange, changed_word, clock_change, entry_for, entry_word}
+use Rattle.spur_pager.specs.Changes.{Changes, MayChange, changed_word, clock_change, entry_for, hold_entry}
 use Rattle.spur_pager.specs.Service.{bits_in}
 use Rattle.spur_pager.specs.Served.{hold_of}
 use Rattle.spur_walk.specs.Bounds.{page_steps_left}
@@ -118,7 +118,7 @@ module _ (w : View) (b frame page slot : ℕ) (within : b < length w.caches) (f 
   here_above : (rest : Flat) → Stands rest w → IsAbove (standing_flat rest w) g
   here_above rest st = let h = holds rest st in above (standing_flat rest w) g st.valid (page_user page h.small) (valid_declared (standing_flat rest w) g st.valid (page_user page h.small) h.valid)
 
-  pub clear_may : (rest : Flat) → Stands rest w → is_referenced (entry_word (hold_of w) g) ≡ true → MayWritten w b g Unreferenced
+  pub clear_may : (rest : Flat) → Stands rest w → is_referenced (hold_entry (hold_of w) g) ≡ true → MayWritten w b g Unreferenced
   clear_may some st referenced = let h = holds some st in record {
     is = tt;
     user = page_user page h.small;
@@ -160,7 +160,7 @@ module _ (w : View) (b frame page slot : ℕ) (within : b < length w.caches) (f 
   page_is : clock.page_of_frame w.frames frame ≡ page
   page_is = ap page_held f.held
 
-  bit_is : page < user_pages → bits_in w (clock.page_of_frame w.frames frame) ≡ is_referenced (entry_word (hold_of w) g)
+  bit_is : page < user_pages → bits_in w (clock.page_of_frame w.frames frame) ≡ is_referenced (hold_entry (hold_of w) g)
   bit_is small = ap (bits_in w) page_is ∙ ap (λ (x : Bool). x && is_referenced (entry_in w page)) (lt-ltb page user_pages small)
 
   bits_same : (v : View) (other : ℕ) (x : Bool) → nat_lt other user_pages ≡ x → (other < user_pages → entry_in v other ≡ entry_in w other) → bits_in v other ≡ bits_in w other
@@ -189,12 +189,12 @@ module _ (w : View) (b frame page slot : ℕ) (within : b < length w.caches) (f 
         | inr apart ↦ ap (λ (n : ℕ). is_dirty n) (e.others other small apart)
       ]
 
-  pub look_clears : (v : View) (rest : Flat) → Stands rest w → IsOfStore w v → is_referenced (entry_word (hold_of w) g) ≡ true → v.frames ≡ passed w.frames
-      → Changes b g (clock_change (entry_word (hold_of w) g)) (hold_of w) (past_of w) (hold_of v) (past_of v) → Looks b w v false
+  pub look_clears : (v : View) (rest : Flat) → Stands rest w → IsOfStore w v → is_referenced (hold_entry (hold_of w) g) ≡ true → v.frames ≡ passed w.frames
+      → Changes b g (clock_change (hold_entry (hold_of w) g)) (hold_of w) (past_of w) (hold_of v) (past_of v) → Looks b w v false
   look_clears v some st store referenced frames c =
       let F : Flat = standing_flat some w in
       let h = holds some st in
-      let is : clock_change (entry_word (hold_of w) g) ≡ Unreferenced = ap (λ (x : Bool). if x then Unreferenced else Leaving) referenced in
+      let is : clock_change (hold_entry (hold_of w) g) ≡ Unreferenced = ap (λ (x : Bool). if x then Unreferenced else Leaving) referenced in
       let change : Changes b g Unreferenced (hold_of w) (past_of w) (hold_of v) (past_of v) = subst (λ (k : Change). Changes b g k (hold_of w) (past_of w) (hold_of v) (past_of v)) is c in
       let framed : (rest : Flat) → Stands rest w → AreFramed (placed (standing_flat rest w) g (changed_word Unreferenced (word_of (standing_flat rest w) g))) v.frames =
       λ (rest : Flat) (s : Stands rest w). subst (λ (fs : Frames). AreFramed (placed (standing_flat rest w) g (changed_word Unreferenced (word_of (standing_flat rest w) g))) fs) (sym frames) (clear_framed rest s) in
@@ -205,7 +205,7 @@ module _ (w : View) (b frame page slot : ℕ) (within : b < length w.caches) (f 
         frame = frame;
         found = f.looked;
         taken = f.taken;
-        room = room_used b g (hold_of w) (hold_of v) (past_of w) (past_of v) (clock_change (entry_word (hold_of w) g)) c;
+        room = room_used b g (hold_of w) (hold_of v) (past_of w) (past_of v) (clock_change (hold_entry (hold_of w) g)) c;
         looked = Clears (bit_is h.small ∙ referenced)
             (subst (λ (p : ℕ). Runs b (clear_referenced b p ∷ []) w v) (sym page_is) run) frames
             (subst (λ (p : ℕ). IsCleared (bits_in w) p (bits_in v)) (sym page_is) (record {
@@ -219,12 +219,12 @@ module _ (w : View) (b frame page slot : ℕ) (within : b < length w.caches) (f 
         lines = changes_lines b g Unreferenced w v (past_of w) (past_of v) change st.walk;
       }
 
-  pub look_leaves : (v : View) (rest : Flat) → Stands rest w → IsOfStore w v → is_referenced (entry_word (hold_of w) g) ≡ false → v.frames ≡ record (passed w.frames) { leaving = Some frame }
-      → Changes b g (clock_change (entry_word (hold_of w) g)) (hold_of w) (past_of w) (hold_of v) (past_of v) → Looks b w v true
+  pub look_leaves : (v : View) (rest : Flat) → Stands rest w → IsOfStore w v → is_referenced (hold_entry (hold_of w) g) ≡ false → v.frames ≡ record (passed w.frames) { leaving = Some frame }
+      → Changes b g (clock_change (hold_entry (hold_of w) g)) (hold_of w) (past_of w) (hold_of v) (past_of v) → Looks b w v true
   look_leaves v some st store unreferenced frames c =
       let F : Flat = standing_flat some w in
       let h = holds some st in
-      let is : clock_change (entry_word (hold_of w) g) ≡ Leaving = ap (λ (x : Bool). if x then Unreferenced else Leaving) unreferenced in
+      let is : clock_change (hold_entry (hold_of w) g) ≡ Leaving = ap (λ (x : Bool). if x then Unreferenced else Leaving) unreferenced in
       let change : Changes b g Leaving (hold_of w) (past_of w) (hold_of v) (past_of v) = subst (λ (k : Change). Changes b g k (hold_of w) (past_of w) (hold_of v) (past_of v)) is c in
       let framed : (rest : Flat) → Stands rest w → AreFramed (placed (standing_flat rest w) g (changed_word Leaving (word_of (standing_flat rest w) g))) v.frames =
       λ (rest : Flat) (s : Stands rest w). subst (λ (fs : Frames). AreFramed (placed (standing_flat rest w) g (changed_word Leaving (word_of (standing_flat rest w) g))) fs) (sym frames) (leave_framed rest s) in
@@ -233,7 +233,7 @@ module _ (w : View) (b frame page slot : ℕ) (within : b < length w.caches) (f 
         frame = frame;
         found = f.looked;
         taken = f.taken;
-        room = room_used b g (hold_of w) (hold_of v) (past_of w) (past_of v) (clock_change (entry_word (hold_of w) g)) c;
+        room = room_used b g (hold_of w) (hold_of v) (past_of w) (past_of v) (clock_change (hold_entry (hold_of w) g)) c;
         looked = Leaves (bit_is h.small ∙ unreferenced) (subst (λ (p : ℕ). Runs b (leave b p ∷ []) w v) (sym page_is) run) frames;
         absent = absent_stays v some (changed_word Leaving (word_of F g)) st (flat_is w v b g Leaving (leave_may some st) store framed change some);
         dirty = dirty_stays v some (changed_word Leaving (word_of F g)) st (flat_is w v b g Leaving (leave_may some st) store framed change some) (same_bit (word_of F g) 6 2 true (λ h. cc));
@@ -247,8 +247,8 @@ module _ (w : View) (b frame page slot : ℕ) (within : b < length w.caches) (f 
   clock_mark true = tt
   clock_mark false = tt
 
-  pub look_may : (rest : Flat) → Stands rest w → MayChange b g (clock_change (entry_word (hold_of w) g)) (hold_of w)
-  look_may rest st = let h = holds rest st in mark_may w b g (clock_change (entry_word (hold_of w) g)) (clock_mark (is_referenced (entry_word (hold_of w) g))) st.present (page_user page h.small) h.valid
+  pub look_may : (rest : Flat) → Stands rest w → MayChange b g (clock_change (hold_entry (hold_of w) g)) (hold_of w)
+  look_may rest st = let h = holds rest st in mark_may w b g (clock_change (hold_entry (hold_of w) g)) (clock_mark (is_referenced (hold_entry (hold_of w) g))) st.present (page_user page h.small) h.valid
 
 -- what was chosen tells of the bit
 pub chose_clear : (x : Bool) → (if x then Unreferenced else Leaving) ≡ Unreferenced → x ≡ true

@@ -13,7 +13,7 @@ use Rattle.spur_walk.specs.Tables.{IsPageFrame, block_address, logical_flat, use
 use Rattle.spur_walk.proofs.StepFacts.{same_flat}
 use Rattle.spur_pager.specs.declared.change.Change.TheVariants.{In, Out}
 use Rattle.spur_pager.specs.Acts.{Hold}
-use Rattle.spur_pager.specs.Changes.{MayChange, entry_word}
+use Rattle.spur_pager.specs.Changes.{MayChange, hold_entry}
 use Rattle.spur_pager.specs.Drops.{IsUnheld}
 use Rattle.spur_pager.specs.Fetch.{Leads}
 use Rattle.spur_pager.proofs.PlaceFacts.{word_page}
@@ -32,10 +32,10 @@ pub out_may : (b g slot : ℕ) (from : Hold) → IsUnheld from g → MayChange b
 out_may b g slot from un fetched mid leads =
     let F : Flat = logical_flat mid.caches mid.memory in
     let still = unheld_still b g from mid fetched leads un in
-    let new : ℕ = swapped_of slot (protection_of (entry_word mid g)) in
-    let out : is_valid new ≡ false = is_valid-swapped slot (protection_of (entry_word mid g)) in
+    let new : ℕ = swapped_of slot (protection_of (hold_entry mid g)) in
+    let out : is_valid new ≡ false = is_valid-swapped slot (protection_of (hold_entry mid g)) in
     record {
-      readable = swapped_readable slot (protection_of (entry_word mid g));
+      readable = swapped_readable slot (protection_of (hold_entry mid g));
       suits = λ (i s : ℕ) (line : Line) (there : line_in mid.caches i s ≡ Some line) (low : block_address line.tag < table_start) (page : page_of (block_address line.tag) ≡ page_of g). absurd (still.none i s line there low page);
       frame = λ (v : is_valid new ≡ true). absurd (false≢true (sym out ∙ v));
       apart = λ (v : is_valid new ≡ true) (to : ℕ) (user : to < table_start) (page : page_of to ≢ page_of g) (vt : is_valid (word_of F to) ≡ true) (same : number_of (word_of F to) ≡ number_of new). false≢true (sym out ∙ v);
@@ -49,7 +49,7 @@ pub record IsSpare (F : Flat) (frame : ℕ) : Type 0 where
   pub table : (r : ℕ) → r < user_roots → is_valid (slice_index F.words r) ≡ true → frame ≢ number_of (slice_index F.words r)
 
 -- a page that is not valid has no line
-pub absent_unheld : (h : Hold) (g : ℕ) → ArePresent (logical_flat h.caches h.memory) h.caches → is_valid (entry_word h g) ≡ false → IsUnheld h g
+pub absent_unheld : (h : Hold) (g : ℕ) → ArePresent (logical_flat h.caches h.memory) h.caches → is_valid (hold_entry h g) ≡ false → IsUnheld h g
 absent_unheld h g present absent = record {
   none = λ (i s : ℕ) (line : Line) (there : line_in h.caches i s ≡ Some line) (low : block_address line.tag < table_start) (page : page_of (block_address line.tag) ≡ page_of g).
       let was = present.user i s line there low in
@@ -61,12 +61,12 @@ pub in_may : (b g frame : ℕ) (from : Hold) → IsUnheld from g → IsSpare (lo
 in_may b g frame from un spare fetched mid leads =
     let F : Flat = logical_flat mid.caches mid.memory in
     let still = unheld_still b g from mid fetched leads un in
-    let new : ℕ = brought_entry frame (entry_word mid g) in
-    let is : number_of new ≡ frame = number_of-resident frame (protection_of (entry_word mid g)) in
+    let new : ℕ = brought_entry frame (hold_entry mid g) in
+    let is : number_of new ≡ frame = number_of-resident frame (protection_of (hold_entry mid g)) in
     let same : logical_flat from.caches from.memory ≡ F = sym (same_flat from.caches mid.caches from.memory mid.memory leads.logical) in
     let now : IsSpare F frame = subst (λ (G : Flat). IsSpare G frame) same spare in
     record {
-      readable = resident_readable frame (protection_of (entry_word mid g));
+      readable = resident_readable frame (protection_of (hold_entry mid g));
       suits = λ (i s : ℕ) (line : Line) (there : line_in mid.caches i s ≡ Some line) (low : block_address line.tag < table_start) (page : page_of (block_address line.tag) ≡ page_of g). absurd (still.none i s line there low page);
       frame = λ (v : is_valid new ≡ true). subst (IsPageFrame F) (sym is) now.is;
       apart = λ (v : is_valid new ≡ true) (to : ℕ) (user : to < table_start) (page : page_of to ≢ page_of g) (vt : is_valid (word_of F to) ≡ true) (h : number_of (word_of F to) ≡ number_of new). now.apart to user vt (h ∙ is);

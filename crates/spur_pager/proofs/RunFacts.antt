@@ -23,7 +23,7 @@ use Rattle.spur_pager.specs.View.{View}
 use Rattle.spur_pager.specs.Stand.{AreFramed, Stands, standing_flat, with_told}
 use Rattle.spur_flat.specs.Clean.{AreClean}
 use Rattle.spur_pager.specs.Acts.{Hold, IsDone, IsFetch, NoAct, Writes, Written, written_in}
-use Rattle.spur_pager.specs.Changes.{Changes, MayChange, changed_word, entry_for, entry_word}
+use Rattle.spur_pager.specs.Changes.{Changes, MayChange, changed_word, entry_for, hold_entry}
 use Rattle.spur_pager.specs.Served.{hold_of}
 use Rattle.spur_pager.specs.Served as served
 use Rattle.spur_pager.specs.Runs.{Runs}
@@ -82,11 +82,11 @@ pager (Out slot) b g mid is within user has = absurd is
 pager (In frame) b g mid is within user has = absurd is
 
 -- the bit may be changed wherever the steps towards the entry lead
-pub mark_may : (w : View) (b g : ℕ) (change : Change) → IsMark change → ArePresent (logical_flat w.caches w.memory) w.caches → g < table_start → is_valid (entry_word (hold_of w) g) ≡ true → MayChange b g change (hold_of w)
+pub mark_may : (w : View) (b g : ℕ) (change : Change) → IsMark change → ArePresent (logical_flat w.caches w.memory) w.caches → g < table_start → is_valid (hold_entry (hold_of w) g) ≡ true → MayChange b g change (hold_of w)
 mark_may w b g change is present user valid fetched mid leads =
     let F : Flat = logical_flat mid.caches mid.memory in
     let same : F ≡ logical_flat w.caches w.memory = same_flat w.caches mid.caches w.memory mid.memory leads.logical in
-    may_mark F mid.caches g (entry_word mid g) (changed_word change (entry_word mid g)) leads.walk.tables (leads.present present) user refl (ap (λ (G : Flat). is_valid (word_of G g)) same ∙ valid) (marks change (entry_word mid g) is)
+    may_mark F mid.caches g (hold_entry mid g) (changed_word change (hold_entry mid g)) leads.walk.tables (leads.present present) user refl (ap (λ (G : Flat). is_valid (word_of G g)) same ∙ valid) (marks change (hold_entry mid g) is)
 
 -- what any of them needs
 pub record MayWritten (w : View) (b g : ℕ) (change : Change) : Type 0 where
@@ -94,7 +94,7 @@ pub record MayWritten (w : View) (b g : ℕ) (change : Change) : Type 0 where
   pub user : g < table_start
   pub starts : g % 2 ^ 12 ≡ 0
   pub within : b < length w.caches
-  pub valid : is_valid (entry_word (hold_of w) g) ≡ true
+  pub valid : is_valid (hold_entry (hold_of w) g) ≡ true
   pub allowed : (rest : Flat) → Stands rest w → IsAllowed (standing_flat rest w) (entry_for change b g)
 
 -- the same swap is seen, and the same settings
@@ -120,7 +120,7 @@ mark_framed w v b g change may table same rest st =
 pub as_written : (w : View) (b g : ℕ) (change : Change) → MayMark w b g change → MayWritten w b g change
 as_written w b g change may = record { is = bit_marks change may.is; user = may.user; starts = may.starts; within = may.within; valid = may.valid; allowed = may.allowed }
 
-pub new_flat : (w v : View) (b g : ℕ) (change : Change) (c : Changes b g change (hold_of w) (past_of w) (hold_of v) (past_of v)) → logical_words v.caches v.memory ≡ slice_set (logical_words w.caches w.memory) (entry_place (logical_flat w.caches w.memory) g) (changed_word change (entry_word (hold_of w) g))
+pub new_flat : (w v : View) (b g : ℕ) (change : Change) (c : Changes b g change (hold_of w) (past_of w) (hold_of v) (past_of v)) → logical_words v.caches v.memory ≡ slice_set (logical_words w.caches w.memory) (entry_place (logical_flat w.caches w.memory) g) (changed_word change (hold_entry (hold_of w) g))
 new_flat w v b g change c =
     let memory : v.memory ≡ c.mid.memory = ap (λ (h : Hold). h.memory) c.to_is in
     let same : logical_flat c.mid.caches c.mid.memory ≡ logical_flat w.caches w.memory = same_flat w.caches c.mid.caches w.memory c.mid.memory c.leads.logical in
@@ -193,7 +193,7 @@ module _ (w v : View) (b g : ℕ) (change : Change) (may : MayWritten w b g chan
 
   pub written : mark.IsMarked b g change w v
   written = record {
-    word = ap (λ (ws : List ℕ). word_of (record (logical_flat w.caches w.memory) { words = ws }) g) (new_flat w v b g change c) ∙ word_same (logical_flat w.caches w.memory) g (changed_word change (entry_word (hold_of w) g)) g place may.user refl;
+    word = ap (λ (ws : List ℕ). word_of (record (logical_flat w.caches w.memory) { words = ws }) g) (new_flat w v b g change c) ∙ word_same (logical_flat w.caches w.memory) g (changed_word change (hold_entry (hold_of w) g)) g place may.user refl;
     exclusive = c.writes.exclusive;
   }
     where

@@ -42,8 +42,8 @@ held_line : (o : Option Line) (g word : ℕ) → line_word o g ≡ Some word →
 held_line None g word h = cc
 held_line (Some line) g word h = record { line = line; there = refl; word_is = cc }
 
-cached_first : (lines : List (Option Line)) (rest : List (List (Option Line))) (g word : ℕ) (o : Option ℕ) → first_cached_word lines g ≡ o → (first_cached_word rest g ≡ Some word → IsCached rest g word)
-    → first_some (o ∷ map (λ (ls : List (Option Line)). first_cached_word ls g) rest) ≡ Some word → IsCached (lines ∷ rest) g word
+cached_first : (lines : List (Option Line)) (rest : List (List (Option Line))) (g word : ℕ) (o : Option ℕ) → cached_word lines g ≡ o → (first_cached_word rest g ≡ Some word → IsCached rest g word)
+    → first_some (o ∷ map (λ (ls : List (Option Line)). cached_word ls g) rest) ≡ Some word → IsCached (lines ∷ rest) g word
 cached_first lines rest g word None is later h =
     let r = later h in
     let small : r.board < length rest = r.within in
@@ -54,7 +54,7 @@ cached_first lines rest g word (Some x) is later h =
 
 cached_some : (caches : List (List (Option Line))) (g word : ℕ) → first_cached_word caches g ≡ Some word → IsCached caches g word
 cached_some [] g word h = cc
-cached_some (lines ∷ rest) g word h = cached_first lines rest g word (first_cached_word lines g) refl (cached_some rest g word) h
+cached_some (lines ∷ rest) g word h = cached_first lines rest g word (cached_word lines g) refl (cached_some rest g word) h
 
 -- or none has it
 none_held : (o : Option Line) (g : ℕ) → line_word o g ≡ None → o ≡ None
@@ -67,9 +67,9 @@ none_first (Some x) os h = cc
 
 cached_none : (caches : List (List (Option Line))) (g i : ℕ) → first_cached_word caches g ≡ None → i < length caches → line_of_block caches i g ≡ None
 cached_none [] g i h small = absurd (omega arith)
-cached_none (lines ∷ rest) g zero h small = none_held (found lines g) g (none_first (first_cached_word lines g) (map (λ (ls : List (Option Line)). first_cached_word ls g) rest) h).0
+cached_none (lines ∷ rest) g zero h small = none_held (found lines g) g (none_first (cached_word lines g) (map (λ (ls : List (Option Line)). cached_word ls g) rest) h).0
 cached_none (lines ∷ rest) g (suc i) h small =
-    cached_none rest g i (none_first (first_cached_word lines g) (map (λ (ls : List (Option Line)). first_cached_word ls g) rest) h).1 (omega arith)
+    cached_none rest g i (none_first (cached_word lines g) (map (λ (ls : List (Option Line)). cached_word ls g) rest) h).1 (omega arith)
 
 -- what stands in a frame below 64 is of the root
 low_is_root : (F : Flat) (block frame : ℕ) → HasTables F → StandsIn F block frame → frame < 64 → root_start ≤ block_address block

@@ -1,4 +1,5 @@
 -- The state stands again after a hit that writes.
+use Rattle.spur_addr.specs.Pages.{page_at}
 use Rattle.std.proofs.Common.{◌≡◌, ◌≢◌, ◌∙◌, ℕ, zero, suc, ◌+◌, ◌-◌, ◌*◌, ◌/◌, ◌%◌, ◌^◌, ◌<◌, ◌≤◌, true, false, ap, sym, refl, subst, List, [], ◌∷◌, get_or, length, slice_set, Option, Some, None, arith}
 use Rattle.std.proofs.lemmas.List.{ext_get_or, get_or-set_other}
 use Rattle.spur_addr.specs.Address.{page_of, table_start, page_address, user_pages}
@@ -8,7 +9,7 @@ use Rattle.spur_flat.specs.declared.flat.Flat.{Flat}
 use Rattle.spur_flat.specs.declared.entry.Entry.{Entry}
 use Rattle.spur_flat.specs.declared.entry.Entry.TheVariants as entry
 use Rattle.spur_flat.specs.History.{on}
-use Rattle.spur_flat.specs.Pager.{page_at, word_of}
+use Rattle.spur_flat.specs.Pager.{word_of}
 use Rattle.spur_flat.specs.Table.{place_of, table_words, walk_of}
 use Rattle.spur_flat.specs.Validity.{IsValidFlat}
 use Rattle.spur_flat.proofs.WalkFacts.{data_within, valid-with_word}

@@ -19,7 +19,7 @@ use Rattle.spur_pager.specs.Acts.{Act, clear_referenced, leave}
 use Rattle.spur_pager.specs.Service.{bits_in, clock_acts, frame_held, turn_of}
 use Rattle.spur_pager.specs.Room.{entry_room, page_line_count}
 use Rattle.spur_pager.specs.Runs.{Runs}
-use Rattle.spur_pager.specs.Looks.{Clears, Clocks, HasNoMoreLines, IsLooked, KeepsAbsent, Leaves, Looks}
+use Rattle.spur_pager.specs.Looks.{Clears, Clocks, HasNoMoreLines, IsLooked, KeepsAbsent, Leaves, Looks, KeepsDirty}
 use Rattle.spur_pager.proofs.JoinFacts.{carried_none, runs_none, runs_then}
 use Rattle.spur_pager.proofs.OptionFacts.{none_or_some, some_not_none}
 

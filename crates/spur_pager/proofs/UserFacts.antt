@@ -23,7 +23,8 @@ use Rattle.spur_bus.proofs.FromFacts.{From, Fresh, Mine, Other, from}
 use Rattle.spur_walk.specs.declared.plan.Plan.{Plan}
 use Rattle.spur_walk.specs.declared.plan.Plan.TheVariants as plan
 use Rattle.spur_walk.specs.Plan.{fill_over, page_by, page_plan, root_place, table_place, where_found}
-use Rattle.spur_walk.specs.Steps.{restated, stepped}
+use Rattle.spur_bus.specs.Boards.{restated_line}
+use Rattle.spur_walk.specs.Steps.{stepped}
 use Rattle.spur_walk.specs.Tables.{block_address, logical_flat, root_at}
 use Rattle.spur_pager.specs.Fetch.{WasThere}
 
@@ -61,7 +62,7 @@ from_was caches own block kind fresh i s l new (Mine e apart there) = record { s
 from_was caches own block kind fresh i s l new (Other old apart there came) = record { slot = s; line = old; there = there; tag_is = sym came.tag }
 
 restated_was : (caches : List (List (Option Line))) (b g : ℕ) (kind : BusKind) (state : BlockState) (o : Option Line) (i s : ℕ) (l : Line) → Agrees caches → b < length caches → line_of_block caches b g ≡ o
-    → line_in (restated caches b g kind state o) i s ≡ Some l → WasThere caches i l.tag
+    → line_in (restated_line caches b g kind state o) i s ≡ Some l → WasThere caches i l.tag
 restated_was caches b g kind state None i s l agree within is h = record { slot = s; line = l; there = h; tag_is = refl }
 restated_was caches b g kind state (Some line) i s l agree within is h =
     let here = is_here caches b g line within is in

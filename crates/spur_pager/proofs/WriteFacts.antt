@@ -77,8 +77,6 @@ is_word caches b g e k slot line there tag exclusive full k_is =
           omega arith;
     }
 
-}
-
 put_suits : (F : Flat) (caches : List (List (Option Line))) (b s n e : ℕ) (line : Line) (i t : ℕ) (l : Line) → ArePresent F caches → line_in caches b s ≡ Some line → Put caches b s (written n e line) i t l → Suiting F l
 put_suits F caches b s n e line i t l present there (Here ei et is) = subst (λ (m : Line). Suiting F m) (sym is) (suits_written F n e line (suits_all F caches b s line present there))
 put_suits F caches b s n e line i t l present there (There was away) = suits_all F caches i t l present was

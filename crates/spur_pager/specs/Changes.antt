@@ -35,12 +35,12 @@ is_small (In frame) = frame < 2 ^ 20
 is_small change = ⊤
 
 -- the word of the entry of the page of g
-abbrev pub entry_word : Hold → ℕ → ℕ
-entry_word h g = word_of (logical_flat h.caches h.memory) g
+abbrev pub hold_entry : Hold → ℕ → ℕ
+hold_entry h g = word_of (logical_flat h.caches h.memory) g
 
 -- the changed entry may be written wherever the steps towards it lead
 abbrev pub MayChange : ℕ → ℕ → Change → Hold → Type 0
-MayChange b g change from = (fetched : List Entry) (mid : Hold) → Leads b g from fetched mid → MayWrite (logical_flat mid.caches mid.memory) mid.caches g (changed_word change (entry_word mid g))
+MayChange b g change from = (fetched : List Entry) (mid : Hold) → Leads b g from fetched mid → MayWrite (logical_flat mid.caches mid.memory) mid.caches g (changed_word change (hold_entry mid g))
 
 -- An entry was changed: its block was brought, its word was written in cache b, and the entries were appended.
 pub record Changes (b g : ℕ) (change : Change) (from : Hold) (before : Past) (to : Hold) (after : Past) : Type 0 where
@@ -49,7 +49,7 @@ pub record Changes (b g : ℕ) (change : Change) (from : Hold) (before : Past) (
   pub fetch : IsFetch b g from fetched mid
   pub leads : Leads b g from fetched mid
   pub to_is : to ≡ written_in b g (changed_word change) mid
-  pub writes : Writes mid.caches mid.memory b g (changed_word change (entry_word mid g)) to.caches
+  pub writes : Writes mid.caches mid.memory b g (changed_word change (hold_entry mid g)) to.caches
   pub entries : after.entries ≡ before.entries ++ (fetched ++ entry_for change b g ∷ [])
   pub room : after.room + length (fetched ++ entry_for change b g ∷ []) ≡ before.room
 
@@ -59,7 +59,7 @@ clock_change e = if is_referenced e then Unreferenced else Leaving
 
 -- that, of the entry of the page of g as it stands
 abbrev pub ticked : Hold → ℕ → Change
-ticked h g = clock_change (entry_word h g)
+ticked h g = clock_change (hold_entry h g)
 
 -- it may do that, and did
 abbrev pub MayTick : ℕ → ℕ → Hold → Type 0

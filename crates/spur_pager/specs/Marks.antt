@@ -10,7 +10,7 @@ use Rattle.spur_pager.specs.declared.change.Change.{Change}
 use Rattle.spur_pager.specs.declared.change.Change.TheVariants.{Dirty, In, Out, Referenced, Unreferenced}
 use Rattle.spur_pager.specs.View.{View}
 use Rattle.spur_pager.specs.Stand.{Stands, standing_flat}
-use Rattle.spur_pager.specs.Changes.{changed_word, entry_for, entry_word}
+use Rattle.spur_pager.specs.Changes.{changed_word, entry_for, hold_entry}
 use Rattle.spur_pager.specs.Served.{hold_of}
 
 -- the changes of one bit
@@ -32,10 +32,10 @@ pub record MayMark (w : View) (b g : ℕ) (change : Change) : Type 0 where
   pub user : g < table_start
   pub starts : g % 2 ^ 12 ≡ 0
   pub within : b < length w.caches
-  pub valid : is_valid (entry_word (hold_of w) g) ≡ true
+  pub valid : is_valid (hold_entry (hold_of w) g) ≡ true
   pub allowed : (rest : Flat) → Stands rest w → IsAllowed (standing_flat rest w) (entry_for change b g)
 
 -- the entry has the changed word, and its block is exclusive in cache b
 pub record IsMarked (b g : ℕ) (change : Change) (w v : View) : Type 0 where
-  pub word : entry_word (hold_of v) g ≡ changed_word change (entry_word (hold_of w) g)
+  pub word : hold_entry (hold_of v) g ≡ changed_word change (hold_entry (hold_of w) g)
   pub exclusive : HasLine v.caches b (entry_address_of g) is_exclusive

@@ -8,7 +8,7 @@ use Rattle.spur_walk.specs.Plan.{cached_word}
 
 -- the word of g in the first cache that has its block
 abbrev pub first_cached_word : List (List (Option Line)) → ℕ → Option ℕ
-first_cached_word caches g = first_some (map (λ lines. first_cached_word lines g) caches)
+first_cached_word caches g = first_some (map (λ lines. cached_word lines g) caches)
 
 -- the place of the entry of the page of g in memory, by the root as memory has it
 abbrev pub entry_place_in : List ℕ → ℕ → ℕ

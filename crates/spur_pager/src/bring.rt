@@ -1,6 +1,6 @@
 //! A page comes in from swap.
 
-ghost use Rattle.std.specs.Prelude.{◌≡◌, ◌+◌, ◌*◌, ◌<◌, ◌≤◌, OnErr, OnOk, length};
+ghost use Rattle.std.specs.Prelude.{◌≡◌, ◌+◌, ◌*◌, ◌<◌, ◌≤◌, OnErr, OnOk, length, true, false};
 ghost use Rattle.spur_cache.specs.Lens.{OnlyLines};
 ghost use Rattle.spur_swap.specs.Meaning.{SameButFaults, after_read};
 ghost use Rattle.spur_pager.specs.Counts.{Counts};

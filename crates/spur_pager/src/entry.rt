@@ -10,7 +10,7 @@ ghost use Rattle.spur_walk.specs.Bounds.{page_steps_left};
 ghost use Rattle.spur_walk.specs.Present.{MayWalk};
 ghost use Rattle.spur_walk.specs.Tables.{logical_flat, root_at};
 ghost use Rattle.spur_pager.specs.Acts.{hold_by};
-ghost use Rattle.spur_pager.specs.Changes.{Changes, MayChange, clock_change, is_small};
+ghost use Rattle.spur_pager.specs.Changes.{Changes, MayChange, clock_change, is_small, MayTick, Ticks, ticked};
 ghost use Rattle.spur_pager.specs.Fetch.{Fetches};
 
 use crate::change::{Change, changed, entry_for};

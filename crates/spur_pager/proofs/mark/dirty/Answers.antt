@@ -1,11 +1,11 @@
-use Rattle.std.proofs.Common.{ℕ, [], ◌∷◌, ◌<◌, map, subst, sym}
+use Rattle.std.proofs.Common.{ℕ, [], ◌∷◌, ◌<◌, subst, sym}
 use Rattle.std.proofs.lemmas.List.{length-map}
 use Rattle.spur_pager.specs.declared.change.Change.TheVariants.{Dirty}
 use Rattle.spur_pager.specs.Acts.{Writes}
 use Rattle.spur_pager.specs.Changes.{changed_word, entry_for}
 use Rattle.spur_pager.specs.Marks.{IsMarked, MayMark}
 use Rattle.spur_pager.specs.Runs.{Runs}
-use Rattle.spur_pager.specs.View.{View, seen, view_of}
+use Rattle.spur_pager.specs.View.{View, seen}
 use Rattle.spur_pager.proofs.FaultFacts.{dirty_may, dirty_served}
 use Rattle.spur_pager.proofs.mark.dirty.Goals as goal
 

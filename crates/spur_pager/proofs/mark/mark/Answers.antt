@@ -1,5 +1,5 @@
 use Rattle.std.proofs.Common.{map, refl}
-use Rattle.spur_pager.specs.View.{View, seen, view_of}
+use Rattle.spur_pager.specs.View.{View, seen}
 use Rattle.spur_pager.proofs.LookFacts.{room_used}
 use Rattle.spur_pager.proofs.RunFacts.{as_written, mark_framed, mark_may, runs, written}
 use Rattle.spur_pager.proofs.mark.mark.Goals as goal
