@@ -47,15 +47,11 @@ pub fn read_shared<T: HasCache>(
     ensures agree { Agrees (caches T.lens boards.new) }
     ensures serves { AgreesWithMemory (caches T.lens boards.new) phys.now }
     ensures logical { logical_of T.lens boards.new phys.now ≡ logical_of T.lens boards.old phys.now }
-    ensures words {
-        words_of (line_of_block (caches T.lens boards.new) b at)
-            ≡ logical_block (caches T.lens boards.old) phys.now place.frame at
-    }
+    ensures words { words_of (line_of_block (caches T.lens boards.new) b at)
+        ≡ logical_block (caches T.lens boards.old) phys.now place.frame at }
     ensures lines { line_count (caches T.lens boards.new) ≡ line_count (caches T.lens boards.old) }
-    ensures tags {
-        MovesTagsAs (caches T.lens boards.old) (caches T.lens boards.new)
-            result layer need.Read (block_start_of at) place
-    }
+    ensures tags { MovesTagsAs (caches T.lens boards.old) (caches T.lens boards.new)
+        result layer need.Read (block_start_of at) place }
 {
     let words = read_words(boards, phys, at, BusKind::ReadShared, place.frame);
     let line = new_line(at, BlockState::UnOwned, place, words);
@@ -92,15 +88,11 @@ pub fn read_owned<T: HasCache>(
     ensures agree { Agrees (caches T.lens boards.new) }
     ensures serves { AgreesWithMemory (caches T.lens boards.new) phys.now }
     ensures logical { logical_of T.lens boards.new phys.now ≡ logical_of T.lens boards.old phys.now }
-    ensures words {
-        words_of (line_of_block (caches T.lens boards.new) b at)
-            ≡ logical_block (caches T.lens boards.old) phys.now place.frame at
-    }
+    ensures words { words_of (line_of_block (caches T.lens boards.new) b at)
+        ≡ logical_block (caches T.lens boards.old) phys.now place.frame at }
     ensures lines { line_count (caches T.lens boards.new) ≡ line_count (caches T.lens boards.old) }
-    ensures tags {
-        MovesTagsAs (caches T.lens boards.old) (caches T.lens boards.new)
-            result layer need.Write (block_start_of at) place
-    }
+    ensures tags { MovesTagsAs (caches T.lens boards.old) (caches T.lens boards.new)
+        result layer need.Write (block_start_of at) place }
 {
     let words = read_words(boards, phys, at, BusKind::ReadOwned, place.frame);
     let line = new_line(at, BlockState::OwnedExclusive, place, words);

@@ -1,4 +1,4 @@
--- What kind of entries the walk and the pager make: well formed, of one board, and no accesses.
+-- Well-formed entries, and what kind of entries the walk and the pager make: of one board, and no accesses.
 use Rattle.std.specs.Prelude.{ℕ, ◌≡◌, ◌%◌, ◌^◌, ◌<◌, ⊤, false}
 use Rattle.spur_flat.specs.declared.entry.Entry.{Entry}
 use Rattle.spur_flat.specs.declared.entry.Entry.TheVariants.{Fill, Claim, WriteBack, Refresh, BlockFlush, Leave, PageOut, PageIn, SetRef, SetDirty, ClearRef}

@@ -23,7 +23,8 @@ none_open = [] ∷ []
 abbrev pub no_numbers : List (List ℕ)
 no_numbers = [] ∷ []
 
--- page 0 comes in, its word at 40 is loaded and then stored. Among 4096 lines the three blocks have one each
+-- page 0 comes in, its word at 40 is loaded and then stored. Among 4096 lines the word's
+-- block has one of its own, and the other two share one
 abbrev pub many_lines : List Entry
 many_lines =
     Fill 0 RootBlock Read 0x3fcff00000

@@ -11,11 +11,8 @@ ghost use Rattle.spur_flat.specs.History.{on, with_word_at};
 use crate::access::{AccessKind, FaultKind, admit, may_fault, miss};
 use crate::entry::Entry;
 use crate::illegal::{Clause, Illegal};
-use spur_addr::{GlobalAddr, Pte};
+use spur_addr::{GlobalAddr, PAGE_WORDS, Pte};
 use spur_list::Items;
-
-/// The words of a page, and so of a frame, of a swap slot, and the entries of a page of the table.
-pub(crate) const PAGE_WORDS: usize = 1024;
 
 /// The plain machine's state: memory, swap, and which pages are declared.
 ///

@@ -8,12 +8,9 @@ ghost use Rattle.spur_flat.specs.Refusal.{in_refusal};
 ghost use Rattle.spur_flat.specs.Pager.{come_in, gone_out, has_frame, is_declared, is_free_frame, page_loaded, may_clear_referenced, may_come_in, may_go_out, may_leave, may_set_dirty, may_set_referenced, or_zero, paged, position_in, saved, swap_slot_of, with_entry, with_entry_bit, word_of};
 ghost use Rattle.spur_flat.specs.Validity.{IsValidFlat};
 
-use crate::flat::{Flat, PAGE_WORDS};
+use crate::flat::Flat;
 use crate::illegal::{Clause, Illegal};
-use spur_addr::{GlobalAddr, Protection, Pte};
-
-/// How many frames the root table has.
-const ROOT_FRAMES: u32 = 64;
+use spur_addr::{GlobalAddr, PAGE_WORDS, Protection, Pte, ROOT_FRAMES};
 
 impl Flat {
     /// Takes `Leave`: marks a page as leaving its frame.

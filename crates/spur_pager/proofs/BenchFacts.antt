@@ -1,5 +1,5 @@
 -- What the tests keep from call to call.
-use Rattle.std.proofs.Common.{◌≡◌, ◌∙◌, ℕ, ◌+◌, ◌*◌, ◌/◌, ◌%◌, ◌<◌, ◌≤◌, true, ap, refl, sym, subst, List, length, slice_index, Option, Some, None, arith}
+use Rattle.std.proofs.Common.{◌≡◌, ◌∙◌, ℕ, ◌+◌, ◌*◌, ◌<◌, ◌≤◌, true, ap, refl, sym, subst, List, length, Option, Some, None, arith}
 use Rattle.spur_cache.specs.declared.line.Line.{Line}
 use Rattle.spur_snoop.specs.declared.Need.{Need}
 use Rattle.spur_snoop.specs.declared.Need.TheVariants as needs
@@ -12,7 +12,7 @@ use Rattle.spur_flat.specs.declared.entry.Entry.{Entry}
 use Rattle.spur_flat.specs.declared.flat.Flat.{Flat}
 use Rattle.spur_flat.specs.Validity.{IsValidFlat}
 use Rattle.spur_bus.specs.Agrees.{Agrees}
-use Rattle.spur_bus.specs.Boards.{line_in, line_of_block}
+use Rattle.spur_bus.specs.Boards.{line_of_block}
 use Rattle.spur_bus.specs.Logical.{logical_words}
 use Rattle.spur_bus.specs.Calls.{line_count}
 use Rattle.spur_bus.proofs.OldFacts.{old_word}

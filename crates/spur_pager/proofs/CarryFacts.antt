@@ -1,5 +1,5 @@
 -- The entries of one change of a page's entry are carried.
-use Rattle.std.proofs.Common.{◌≡◌, ◌∙◌, ℕ, ◌+◌, ◌<◌, ◌≤◌, ◌^◌, ap, sym, subst, List, [], ◌∷◌, ◌++◌, get_or, length, replicate, slice_set, Option, Some, None, arith}
+use Rattle.std.proofs.Common.{◌≡◌, ◌∙◌, ℕ, ◌+◌, ◌<◌, ◌≤◌, ◌^◌, ap, sym, subst, List, [], ◌∷◌, ◌++◌, get_or, length, slice_set, Option, Some, None, arith}
 use Rattle.std.specs.List.{AllByRecursion}
 use Rattle.std.proofs.lemmas.List.{get_or-set_same, length-replicate}
 use Rattle.spur_flat.specs.declared.flat.Flat.{Flat}

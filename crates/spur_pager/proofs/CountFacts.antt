@@ -1,5 +1,5 @@
 -- The counts of the swap object's calls.
-use Rattle.std.proofs.Common.{◌≡◌, ◌∙◌, ℕ, ◌≤◌, Bool, true, false, List, Option, ap, sym, subst, arith}
+use Rattle.std.proofs.Common.{◌≡◌, ◌∙◌, ℕ, ◌≤◌, Bool, true, false, List, ap, sym, subst, arith}
 use Rattle.spur_cache.specs.Lens.{Lens}
 use Rattle.spur_swap.specs.Meaning.{SameButFaults, Swap, after_read, after_write}
 use Rattle.spur_pager.specs.declared.store.Store.{Store}

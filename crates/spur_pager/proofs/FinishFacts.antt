@@ -1,6 +1,7 @@
 -- The leaving page is finished, and a frame is made free.
+use Rattle.spur_pager.proofs.PlaceFacts.{within}
 use Rattle.std.proofs.Common.{◌≡◌, ◌≢◌, ◌∙◌, ℕ, zero, suc, ◌+◌, ◌-◌, ◌<◌, ◌≤◌, true, false, ap, sym, refl, subst, List, [], ◌∷◌, ◌++◌, get_or, length, replicate, slice_set, Option, Some, None, arith}
-use Rattle.std.specs.Prelude.{is_none, ◌&&◌, Bool, IsSome, OnErr, OnOk, Result, Ok, Err}
+use Rattle.std.specs.Prelude.{is_none, ◌&&◌, IsSome, OnErr, OnOk, Result, Ok, Err}
 use Rattle.std.proofs.lemmas.List.{get_or-set_same}
 use Rattle.std.proofs.lemmas.List as L
 use Rattle.spur_addr.specs.Address.{entry_address_of, page_address, user_pages}
@@ -35,7 +36,7 @@ use Rattle.spur_pager.proofs.EntryFacts.{leaving_page}
 use Rattle.spur_pager.proofs.FetchFacts.{hold_same}
 use Rattle.spur_pager.proofs.JoinFacts.{carried_none, runs_none, runs_then}
 use Rattle.spur_pager.proofs.OptionFacts.{none_or_some, some_not_none}
-use Rattle.spur_pager.proofs.TurnFacts.{nothing_runs}
+use Rattle.spur_pager.proofs.TurnFacts.{nothing_runs, fewer}
 use Rattle.spur_bus.proofs.LineFacts.{some_same}
 
 -- what is said of an answer, said of what follows from it

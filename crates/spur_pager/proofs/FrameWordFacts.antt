@@ -1,5 +1,5 @@
 -- A frame in which no line stands has the words that memory has.
-use Rattle.std.proofs.Common.{◌≡◌, ◌≢◌, ◌∙◌, ℕ, ◌+◌, ◌*◌, ◌/◌, ◌%◌, ◌<◌, ◌≤◌, true, ap, sym, subst, List, length, slice_index, Option, Some, arith}
+use Rattle.std.proofs.Common.{◌≡◌, ◌≢◌, ◌∙◌, ℕ, ◌+◌, ◌*◌, ◌/◌, ◌%◌, ◌<◌, ◌≤◌, true, sym, subst, List, length, slice_index, Option, Some, arith}
 use Rattle.std.proofs.lemmas.List.{ext_get_or}
 use Rattle.spur_addr.specs.Address.{table_start}
 use Rattle.spur_addr.specs.PageEntry.{is_valid, number_of}
@@ -10,8 +10,8 @@ use Rattle.spur_flat.specs.Pager.{word_of}
 use Rattle.spur_addr.specs.Pages.{page_at}
 use Rattle.spur_flat.proofs.PagerFacts.{page_long}
 use Rattle.spur_bus.specs.Boards.{line_in}
-use Rattle.spur_bus.specs.Logical.{logical_word, logical_words, word_or}
-use Rattle.spur_bus.proofs.OwnerFacts.{Free, Owned, Owner, OwnsAt, owner}
+use Rattle.spur_bus.specs.Logical.{logical_word, logical_words}
+use Rattle.spur_bus.proofs.OwnerFacts.{OwnsAt}
 use Rattle.spur_bus.proofs.WordsFacts.{length-logical, logical_index}
 use Rattle.spur_walk.specs.Present.{MayWalk}
 use Rattle.spur_walk.specs.Tables.{OfPage, OfRoot, OfTable, StandsIn, block_address, logical_flat, user_roots}

@@ -1,9 +1,9 @@
 -- The clock looks at a page.
-use Rattle.std.proofs.Common.{◌≡◌, ◌≢◌, ◌∙◌, ℕ, ◌+◌, ◌*◌, ◌/◌, ◌%◌, ◌^◌, ◌<◌, ◌==◌, ◌&&◌, nat_lt, ⊎_elim, Bool, true, false, not, if◌then◌else◌, ap, sym, refl, subst, [], ◌∷◌, ◌++◌, ◌≤◌, get_or, length, Option, Some, None, arith}
+use Rattle.std.proofs.Common.{◌≡◌, ◌≢◌, ◌∙◌, ℕ, ◌+◌, ◌*◌, ◌/◌, ◌%◌, ◌^◌, ◌<◌, ◌==◌, ◌&&◌, nat_lt, ⊎_elim, Bool, true, false, not, if◌then◌else◌, ap, sym, refl, subst, [], ◌∷◌, ◌++◌, ◌≤◌, get_or, length, Option, Some, None, arith, inl, inr}
 use Rattle.std.specs.Int.{bit_at}
 use Rattle.std.proofs.lemmas.Bool.{and_from, cases_eq, eq-eqb, lt-ltb, ltb-true, not_from_false}
 use Rattle.spur_addr.specs.Address.{page_of, page_address, user_pages}
-use Rattle.spur_addr.specs.PageEntry.{is_leaving, is_referenced, is_valid, number_of, with_bit}
+use Rattle.spur_addr.specs.PageEntry.{is_leaving, is_referenced, is_valid, number_of, with_bit, is_dirty}
 use Rattle.spur_flat.specs.declared.flat.Flat.{Flat}
 use Rattle.spur_flat.specs.Pager.{word_of}
 use Rattle.spur_frames.specs.Frames.{Frames, IsFrame, IsTaken, hand_past, holder_of, looked_at, passed}
@@ -24,7 +24,7 @@ use Rattle.spur_pager.specs.Acts.{Hold, clear_referenced, leave}
 use Rattle.spur_walk.proofs.OpenedFacts.{small_length}
 use Rattle.spur_pager.specs.Marks.{IsMark}
 use Rattle.spur_pager.specs.Runs.{Runs}
-use Rattle.spur_pager.specs.Looks.{Clears, KeepsAbsent, Leaves, Looks}
+use Rattle.spur_pager.specs.Looks.{Clears, KeepsAbsent, Leaves, Looks, KeepsDirty}
 use Rattle.spur_pager.proofs.EntryFacts.{IsAbove, above, entries, framed_marked, held_still, holds_still, page_again, page_user, steady, valid_declared}
 use Rattle.spur_pager.proofs.LineFacts.{changes_lines}
 use Rattle.spur_pager.proofs.MarkFacts.{leaving_marks, referenced_marks, same_bit}

@@ -1,27 +1,9 @@
 -- The entries that serving a fault appends.
-use Rattle.std.proofs.Common.{◌≡◌, ◌∙◌, ℕ, ◌+◌, ◌*◌, ◌/◌, ◌%◌, ◌^◌, ◌<◌, Bool, true, false, if◌then◌else◌, ap, refl, subst, List, [], ◌∷◌, ◌++◌, filter, get_or, length, Option, Some, None, arith}
-use Rattle.std.specs.Prelude.{⊤}
+use Rattle.std.proofs.Common.{◌≡◌, ℕ, ◌*◌, ◌%◌, ◌^◌, ◌<◌, refl, subst, List, [], ◌∷◌, ◌++◌, length, arith}
 use Rattle.std.specs.List.{AllByRecursion}
-use Rattle.spur_addr.specs.Address.{block_start_of, entry_address_of, table_start, page_address}
-use Rattle.spur_cache.specs.declared.line.Line.{Line}
-use Rattle.spur_cache.specs.Lines.{IsCache, found, victim_of}
-use Rattle.spur_snoop.specs.declared.Need.{Need}
-use Rattle.spur_snoop.specs.declared.Need.TheVariants.{Read, Write}
-use Rattle.spur_snoop.specs.Protocol.{is_owned, is_exclusive}
+use Rattle.spur_addr.specs.Address.{block_start_of, table_start}
 use Rattle.spur_flat.specs.declared.entry.Entry.{Entry}
 use Rattle.spur_flat.specs.declared.entry.Entry.TheVariants as entry
-use Rattle.spur_flat.specs.declared.entry.Layer.{Layer}
-use Rattle.spur_flat.specs.declared.entry.Layer.TheVariants.{RootBlock, PteBlock}
-use Rattle.spur_flat.specs.History.{is_own, own_entries}
-use Rattle.spur_bus.specs.declared.place.Place.{Place}
-use Rattle.spur_bus.specs.Agrees.{Agrees}
-use Rattle.spur_walk.specs.declared.plan.Plan.{Plan}
-use Rattle.spur_walk.specs.declared.plan.Plan.TheVariants as plan
-use Rattle.spur_walk.specs.declared.step.Walked.TheVariants as walked
-use Rattle.spur_walk.specs.Plan.{fill_over, page_by, page_plan, root_place, table_place, where_found}
-use Rattle.spur_walk.specs.Steps.{answer_of}
-use Rattle.spur_walk.specs.Tables.{block_address, logical_flat, root_at}
-use Rattle.spur_walk.proofs.PlanFacts.{own_cache, victim_small}
 use Rattle.spur_pager.specs.declared.change.Change.{Change}
 use Rattle.spur_pager.specs.declared.change.Change.TheVariants.{Referenced, Unreferenced, Dirty, Leaving, Out, In}
 use Rattle.spur_flat.specs.Past.{Past}

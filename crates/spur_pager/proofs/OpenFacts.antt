@@ -1,5 +1,5 @@
 -- Entries that are open for a page, and the entry of the pager that they serve.
-use Rattle.std.proofs.Common.{◌≡◌, ◌∙◌, ℕ, zero, suc, ◌+◌, ◌<◌, ◌≤◌, Bool, true, if◌then◌else◌, ap, sym, refl, subst, List, [], ◌∷◌, ◌++◌, length, replicate, slice_set, Option, Some, None, arith}
+use Rattle.std.proofs.Common.{◌≡◌, ◌∙◌, ℕ, ◌+◌, ◌<◌, ◌≤◌, Bool, if◌then◌else◌, ap, sym, refl, subst, List, [], ◌∷◌, ◌++◌, length, replicate, slice_set, Option, Some, None, arith}
 use Rattle.std.specs.List.{AllByRecursion}
 use Rattle.std.proofs.lemmas.Bool.{lt-ltb}
 use Rattle.std.proofs.lemmas.List as L
@@ -7,7 +7,7 @@ use Rattle.std.proofs.lemmas.List.{get_or-set_same, length-set}
 use Rattle.spur_flat.specs.declared.entry.Entry.{Entry}
 use Rattle.spur_flat.specs.declared.entry.Entry.TheVariants as entry
 use Rattle.spur_flat.specs.Blocks.{Apart, Opens, Role, Serves, role_of}
-use Rattle.spur_flat.specs.Needed.{TooMany, first_not, greedy, is_modest, is_of_use, lack_in, lack_of, open_at, open_in, open_on, useless}
+use Rattle.spur_flat.specs.Needed.{TooMany, lack_in, lack_of, open_at, open_in, open_on}
 use Rattle.spur_flat.specs.State.{IsNeeded, open_after}
 use Rattle.spur_bus.specs.Stand.{IsOfBus}
 use Rattle.spur_walk.specs.Laws.{IsServing}

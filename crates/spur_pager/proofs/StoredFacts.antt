@@ -1,4 +1,5 @@
 -- The state stands again after a hit that writes.
+use Rattle.spur_pager.specs.View.{seen}
 use Rattle.spur_addr.specs.Pages.{page_at}
 use Rattle.std.proofs.Common.{◌≡◌, ◌≢◌, ◌∙◌, ℕ, zero, suc, ◌+◌, ◌-◌, ◌*◌, ◌/◌, ◌%◌, ◌^◌, ◌<◌, ◌≤◌, true, false, ap, sym, refl, subst, List, [], ◌∷◌, get_or, length, slice_set, Option, Some, None, arith}
 use Rattle.std.proofs.lemmas.List.{ext_get_or, get_or-set_other}

@@ -1,11 +1,11 @@
 -- A page's entry is written in the cache of a board that has its block alone.
-use Rattle.std.proofs.Common.{◌≡◌, ◌∙◌, ℕ, zero, suc, ◌+◌, ◌*◌, ◌/◌, ◌%◌, ◌^◌, ◌<◌, ◌≤◌, ap, sym, refl, subst, List, [], ◌∷◌, get_or, length, slice_set, slice_index, Option, Some, arith}
+use Rattle.std.proofs.Common.{◌≡◌, ◌∙◌, ℕ, ◌+◌, ◌*◌, ◌/◌, ◌%◌, ◌^◌, ◌<◌, ◌≤◌, ap, sym, refl, subst, List, [], get_or, length, slice_set, slice_index, Option, Some, arith}
 use Rattle.std.proofs.lemmas.List as L
 use Rattle.std.proofs.lemmas.List.{length-set}
 use Rattle.spur_addr.specs.Address.{block_of, entry_address_of, root_index_of, table_start, word_in_block_of}
 use Rattle.spur_addr.specs.PageEntry.{is_valid, number_of}
 use Rattle.spur_cache.specs.declared.line.Line.{Line}
-use Rattle.spur_cache.specs.Lines.{changed_found, found, line_at, index_of, written}
+use Rattle.spur_cache.specs.Lines.{changed_found, found, index_of, written}
 use Rattle.spur_cache.proofs.CacheFacts.{found_held}
 use Rattle.spur_snoop.specs.declared.BlockState.TheVariants.{OwnedExclusive}
 use Rattle.spur_flat.specs.declared.flat.Flat.{Flat}
@@ -15,15 +15,13 @@ use Rattle.spur_snoop.specs.Protocol.{is_exclusive}
 use Rattle.spur_bus.specs.Boards.{line_in, line_of_block}
 use Rattle.spur_bus.specs.Logical.{logical_words}
 use Rattle.spur_bus.specs.Agrees.{IsAt}
-use Rattle.spur_bus.specs.Calls.{cache_tags, tags_of}
 use Rattle.spur_bus.proofs.CallFacts.{is_here}
-use Rattle.spur_bus.proofs.TagsFacts.{with-tags}
 use Rattle.spur_walk.specs.Tables.{HasTables, StandsIn, block_address, logical_flat, root_at}
 use Rattle.spur_walk.specs.Present.{AreMapped, ArePresent, MayWalk}
 use Rattle.spur_walk.proofs.FillFacts.{Suits as Suiting}
 use Rattle.spur_walk.proofs.FrameFacts.{stands_table}
 use Rattle.spur_walk.proofs.PlanFacts.{own_cache}
-use Rattle.spur_walk.proofs.PutFacts.{Here, Put, There, agrees-put, count-put, length-put, put, put_from, stood}
+use Rattle.spur_walk.proofs.PutFacts.{Here, Put, There, agrees-put, count-put, length-put, put, put_from}
 use Rattle.spur_walk.proofs.ServeFacts.{found_same}
 use Rattle.spur_walk.proofs.StepFacts.{present_all, suits_all}
 use Rattle.spur_walk.proofs.TableFacts.{entry_from, entry_to, root_word_is, root_word_start}

@@ -1,5 +1,5 @@
 -- What the pager does, act by act, and the entries that each act appends.
-use Rattle.std.specs.Prelude.{ℕ, ◌≡◌, ◌+◌, ◌*◌, true, false, if◌then◌else◌, List, [], ◌∷◌, ◌++◌, get_or, length, map, slice_set, Option, Some, None}
+use Rattle.std.specs.Prelude.{ℕ, ◌≡◌, ◌+◌, true, false, if◌then◌else◌, List, [], ◌∷◌, ◌++◌, get_or, length, map, slice_set, Option, Some, None}
 use Rattle.spur_addr.specs.Address.{entry_address_of, page_address}
 use Rattle.spur_addr.specs.PageEntry.{protection_of, swapped_of, with_bit}
 use Rattle.spur_cache.specs.declared.line.Line.{Line}

@@ -35,8 +35,8 @@ faults_by_word e = faults_by_bits (is_valid e) (is_leaving e) (is_referenced e) 
 abbrev pub faults_left : View → ℕ → ℕ → ℕ
 faults_left w b at = faults_by_word (word_of (flat_in w) at)
 
--- a kind of fault that can't be served any more in the turn, by the same bits: the page is in its frame and is to stay,
--- and moreover has the bit, or it is not leaving
+-- a kind of fault that can't be served any more in the turn, by the same bits. Missing: the page is in its frame and is to
+-- stay. Leaving: it is not in its frame, or is to stay. Reference and Dirty: it is to stay, and has the bit
 abbrev pub IsPastBy : FaultKind → Bool → Bool → Bool → Bool → Type 0
 IsPastBy fault.Missing valid leaving referenced dirty = (valid ≡ true) × (leaving ≡ false)
 IsPastBy fault.Leaving valid leaving referenced dirty = (valid && leaving) ≡ false

@@ -1,5 +1,5 @@
 -- The page of a slot is read into a frame of the memory.
-use Rattle.std.specs.Prelude.{ℕ, ◌≡◌, ◌*◌, List, length, Option}
+use Rattle.std.specs.Prelude.{ℕ, ◌≡◌, List, length, Option}
 use Rattle.spur_addr.specs.Pages.{with_page}
 use Rattle.spur_swap.specs.Told.{IsTold}
 

@@ -23,7 +23,7 @@ pub data IsLooked (b : ℕ) (w v : View) (frame : ℕ) : Bool → Type 0 where
 abbrev pub KeepsAbsent : View → View → Type 0
 KeepsAbsent w v = (page : ℕ) → page < user_pages → is_valid (entry_in w page) ≡ false → entry_in v page ≡ entry_in w page
 
--- each page is dirty where it was
+-- each page is dirty exactly where it was
 abbrev pub KeepsDirty : View → View → Type 0
 KeepsDirty w v = (page : ℕ) → page < user_pages → is_dirty (entry_in v page) ≡ is_dirty (entry_in w page)
 

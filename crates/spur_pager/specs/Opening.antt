@@ -1,5 +1,5 @@
 -- The state before anything was done, and that it stands.
-use Rattle.std.specs.Prelude.{ℕ, ◌≡◌, ◌+◌, ◌<◌, ◌≤◌, false, List, [], length, replicate, Some, None}
+use Rattle.std.specs.Prelude.{ℕ, ◌≡◌, ◌+◌, ◌<◌, ◌≤◌, false, List, length, replicate, Some, None}
 use Rattle.spur_addr.specs.PageEntry.{is_valid}
 use Rattle.spur_snoop.specs.Size.{IsLineCount}
 use Rattle.spur_flat.specs.declared.flat.Flat.{Flat}

@@ -1,12 +1,11 @@
 -- What the pager needs of the state that stands, and keeps: beside what the walk needs, what is said of present pages, of
 -- frames and of clean pages.
-use Rattle.std.specs.Prelude.{ℕ, ◌≡◌, ◌+◌, ◌*◌, ◌^◌, ◌<◌, true, false, List, [], replicate, length, Option, Some, None}
+use Rattle.std.specs.Prelude.{ℕ, ◌≡◌, ◌+◌, ◌<◌, true, List, [], replicate, length, Option, Some, None}
 use Rattle.spur_addr.specs.Address.{page_address, user_pages}
-use Rattle.spur_addr.specs.PageEntry.{is_valid, is_dirty, is_leaving, number_of}
+use Rattle.spur_addr.specs.PageEntry.{is_valid, is_leaving, number_of}
 use Rattle.spur_flat.specs.declared.flat.Flat.{Flat}
 use Rattle.spur_flat.specs.declared.entry.Entry.{Entry}
-use Rattle.spur_flat.specs.Pager.{position_in, swap_slot_of, word_of}
-use Rattle.spur_addr.specs.Pages.{page_at}
+use Rattle.spur_flat.specs.Pager.{position_in, word_of}
 use Rattle.spur_flat.specs.State.{State, IsCarried}
 use Rattle.spur_flat.specs.Untold.{IsCarriedUntold}
 use Rattle.spur_flat.specs.Clean.{AreClean}

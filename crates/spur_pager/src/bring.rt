@@ -32,18 +32,12 @@ pub(crate) fn bring_in<T: HasCache, B: Backing>(
     requires stands { IsServable (seen B.meaning T.lens boards.old store.old) }
     requires may { MayComeIn (seen B.meaning T.lens boards.old store.old) b frame page slot }
     requires room { entry_room ≤ store.old.history.room }
-    ensures brought {
-        OnOk result (ComesIn b frame page slot (seen B.meaning T.lens boards.old store.old)
-            (seen B.meaning T.lens boards.new store.new))
-    }
-    ensures failed {
-        OnErr result (HasSwapFailed (seen B.meaning T.lens boards.old store.old)
-            (seen B.meaning T.lens boards.new store.new))
-    }
-    ensures counts {
-        Counts true false (seen B.meaning T.lens boards.old store.old)
-            (seen B.meaning T.lens boards.new store.new)
-    }
+    ensures brought { OnOk result (ComesIn b frame page slot (seen B.meaning T.lens boards.old store.old)
+        (seen B.meaning T.lens boards.new store.new)) }
+    ensures failed { OnErr result (HasSwapFailed (seen B.meaning T.lens boards.old store.old)
+        (seen B.meaning T.lens boards.new store.new)) }
+    ensures counts { Counts true false (seen B.meaning T.lens boards.old store.old)
+        (seen B.meaning T.lens boards.new store.new) }
     ensures lens { OnlyLines T.lens boards.old boards.new }
 {
     // so that the check knows the leaving frame to be a taken one

@@ -23,10 +23,8 @@ pub(crate) fn run_clock<T: HasCache, B: Backing>(boards: &mut [T], store: &mut S
     requires stands { IsServable (seen B.meaning T.lens boards.old store.old) }
     requires taken { IsSome (looked_at store.old.frames) }
     requires staying { store.old.frames.leaving ≡ None }
-    requires room {
-        entry_room * (length (turn_of (seen B.meaning T.lens boards.old store.old)).cleared + 1)
-            ≤ store.old.history.room
-    }
+    requires room { entry_room * (length (turn_of (seen B.meaning T.lens boards.old store.old)).cleared + 1)
+        ≤ store.old.history.room }
     ensures clocks { Clocks b (seen B.meaning T.lens boards.old store.old) (seen B.meaning T.lens boards.new store.new) }
     ensures backing { store.new.backing ≡ store.old.backing }
     ensures lens { OnlyLines T.lens boards.old boards.new }
@@ -44,10 +42,8 @@ fn look_once<T: HasCache, B: Backing>(boards: &mut [T], store: &mut Store<B>, b:
     requires taken { IsSome (looked_at store.old.frames) }
     requires staying { store.old.frames.leaving ≡ None }
     requires room { 5 ≤ store.old.history.room }
-    ensures looks {
-        Looks b (seen B.meaning T.lens boards.old store.old)
-            (seen B.meaning T.lens boards.new store.new) result
-    }
+    ensures looks { Looks b (seen B.meaning T.lens boards.old store.old)
+        (seen B.meaning T.lens boards.new store.new) result }
     ensures backing { store.new.backing ≡ store.old.backing }
     ensures lens { OnlyLines T.lens boards.old boards.new }
 {

@@ -37,10 +37,8 @@ pub(crate) fn change_entry<T: HasCache>(
     requires small { is_small change }
     requires may { MayChange b page change (hold_by T.lens boards.old phys.old) }
     requires room { 5 ≤ history.old.room }
-    ensures changes {
-        Changes b page change (hold_by T.lens boards.old phys.old) history.old
-            (hold_by T.lens boards.new phys.new) history.new
-    }
+    ensures changes { Changes b page change (hold_by T.lens boards.old phys.old) history.old
+        (hold_by T.lens boards.new phys.new) history.new }
     ensures lens { OnlyLines T.lens boards.old boards.new }
 {
     fetch(boards, phys, history, b, page);
@@ -65,9 +63,7 @@ pub(crate) fn tick<T: HasCache>(
     requires may { MayTick b page (hold_by T.lens boards.old phys.old) }
     requires room { 5 ≤ history.old.room }
     ensures change { result ≡ ticked (hold_by T.lens boards.old phys.old) page }
-    ensures changes {
-        Ticks b page (hold_by T.lens boards.old phys.old) history.old (hold_by T.lens boards.new phys.new) history.new
-    }
+    ensures changes { Ticks b page (hold_by T.lens boards.old phys.old) history.old (hold_by T.lens boards.new phys.new) history.new }
     ensures lens { OnlyLines T.lens boards.old boards.new }
 {
     fetch(boards, phys, history, b, page);
@@ -120,10 +116,8 @@ fn fetch<T: HasCache>(
     requires walk { MayWalk (caches T.lens boards.old) phys.old }
     requires root { is_valid (root_at (logical_flat (caches T.lens boards.old) phys.old) page) ≡ true }
     requires room { page_steps_left (get_or (caches T.lens boards.old) b []) page ≤ history.old.room }
-    ensures fetches {
-        Fetches b page (hold_by T.lens boards.old phys.old) history.old
-            (hold_by T.lens boards.new phys.new) history.new
-    }
+    ensures fetches { Fetches b page (hold_by T.lens boards.old phys.old) history.old
+        (hold_by T.lens boards.new phys.new) history.new }
     ensures lens { OnlyLines T.lens boards.old boards.new }
 {
     while let Walked::Moved(entry) = advance_entry(boards, phys, b, page) {

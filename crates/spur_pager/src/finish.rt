@@ -31,27 +31,17 @@ pub(crate) fn finish<T: HasCache, B: Backing>(
     requires own { b < length boards.old }
     requires stands { IsServable (seen B.meaning T.lens boards.old store.old) }
     requires leaving { store.old.frames.leaving ≡ Some frame }
-    requires room {
-        page_line_count (caches T.lens boards.old) (page_of_frame store.old.frames frame) + entry_room
-            ≤ store.old.history.room
-    }
-    ensures finishes {
-        OnOk result (Finishes b frame (seen B.meaning T.lens boards.old store.old)
-            (seen B.meaning T.lens boards.new store.new))
-    }
-    ensures failed {
-        OnErr result (FailsToFinish b frame (seen B.meaning T.lens boards.old store.old)
-            (seen B.meaning T.lens boards.new store.new))
-    }
-    ensures unwritten {
-        is_dirty (entry_in
-            (seen B.meaning T.lens boards.old store.old) (page_of_frame store.old.frames frame)) ≡ false → store.new.backing
-            ≡ store.old.backing
-    }
-    ensures counts {
-        CountsFinish frame (seen B.meaning T.lens boards.old store.old)
-            (seen B.meaning T.lens boards.new store.new)
-    }
+    requires room { page_line_count (caches T.lens boards.old) (page_of_frame store.old.frames frame) + entry_room
+        ≤ store.old.history.room }
+    ensures finishes { OnOk result (Finishes b frame (seen B.meaning T.lens boards.old store.old)
+        (seen B.meaning T.lens boards.new store.new)) }
+    ensures failed { OnErr result (FailsToFinish b frame (seen B.meaning T.lens boards.old store.old)
+        (seen B.meaning T.lens boards.new store.new)) }
+    ensures unwritten { is_dirty (entry_in
+        (seen B.meaning T.lens boards.old store.old) (page_of_frame store.old.frames frame)) ≡ false → store.new.backing
+        ≡ store.old.backing }
+    ensures counts { CountsFinish frame (seen B.meaning T.lens boards.old store.old)
+        (seen B.meaning T.lens boards.new store.new) }
     ensures lens { OnlyLines T.lens boards.old boards.new }
 {
     // so that the check knows the leaving frame to be a taken one
@@ -68,14 +58,10 @@ fn leaving_frame<T: HasCache, B: Backing>(boards: &mut [T], store: &mut Store<B>
     requires own { b < length boards.old }
     requires stands { IsServable (seen B.meaning T.lens boards.old store.old) }
     requires full { least_free store.old.frames ≡ None }
-    requires room {
-        clock_room (seen B.meaning T.lens boards.old store.old) store.old.frames.leaving
-            ≤ store.old.history.room
-    }
-    ensures leaving {
-        HasLeaving b (seen B.meaning T.lens boards.old store.old)
-            (seen B.meaning T.lens boards.new store.new) result
-    }
+    requires room { clock_room (seen B.meaning T.lens boards.old store.old) store.old.frames.leaving
+        ≤ store.old.history.room }
+    ensures leaving { HasLeaving b (seen B.meaning T.lens boards.old store.old)
+        (seen B.meaning T.lens boards.new store.new) result }
     ensures backing { store.new.backing ≡ store.old.backing }
     ensures lens { OnlyLines T.lens boards.old boards.new }
 {
@@ -100,23 +86,15 @@ pub(crate) fn free_frame<T: HasCache, B: Backing>(
 ) -> Result<u32, Failed>
     requires own { b < length boards.old }
     requires stands { IsServable (seen B.meaning T.lens boards.old store.old) }
-    requires room {
-        free_room (seen B.meaning T.lens boards.old store.old) (least_free store.old.frames)
-            ≤ store.old.history.room
-    }
+    requires room { free_room (seen B.meaning T.lens boards.old store.old) (least_free store.old.frames)
+        ≤ store.old.history.room }
     ensures unused { IsSome (least_free store.old.frames) → store.new.backing ≡ store.old.backing }
-    ensures free {
-        IfOk result (λ frame. Frees b (seen B.meaning T.lens boards.old store.old)
-            (seen B.meaning T.lens boards.new store.new) frame)
-    }
-    ensures failed {
-        OnErr result (FailsToFree b (seen B.meaning T.lens boards.old store.old)
-            (seen B.meaning T.lens boards.new store.new))
-    }
-    ensures counts {
-        CountsFreeing (seen B.meaning T.lens boards.old store.old)
-            (seen B.meaning T.lens boards.new store.new)
-    }
+    ensures free { IfOk result (λ frame. Frees b (seen B.meaning T.lens boards.old store.old)
+        (seen B.meaning T.lens boards.new store.new) frame) }
+    ensures failed { OnErr result (FailsToFree b (seen B.meaning T.lens boards.old store.old)
+        (seen B.meaning T.lens boards.new store.new)) }
+    ensures counts { CountsFreeing (seen B.meaning T.lens boards.old store.old)
+        (seen B.meaning T.lens boards.new store.new) }
     ensures lens { OnlyLines T.lens boards.old boards.new }
 {
     if let Some(frame) = store.frames.free_one() {

@@ -32,10 +32,8 @@ pub(crate) fn flush_page<T: HasCache, B: Backing>(
     requires stands { IsServable (seen B.meaning T.lens boards.old store.old) }
     requires leaving { IsLeavingPage (seen B.meaning T.lens boards.old store.old) page }
     requires room { page_line_count (caches T.lens boards.old) page ≤ store.old.history.room }
-    ensures flushes {
-        FlushesPage b page (seen B.meaning T.lens boards.old store.old)
-            (seen B.meaning T.lens boards.new store.new)
-    }
+    ensures flushes { FlushesPage b page (seen B.meaning T.lens boards.old store.old)
+        (seen B.meaning T.lens boards.new store.new) }
     ensures frames { store.new.frames ≡ store.old.frames }
     ensures backing { store.new.backing ≡ store.old.backing }
     ensures lens { OnlyLines T.lens boards.old boards.new }
@@ -59,10 +57,8 @@ fn flush_cache<T: HasCache, B: Backing>(
     requires leaving { IsLeavingPage (seen B.meaning T.lens boards.old store.old) page }
     requires room { page_line_count (caches T.lens boards.old) page ≤ store.old.history.room }
     requires before { AreFlushed (caches T.lens boards.old) holder page }
-    ensures flushing {
-        IsFlushing b page (seen B.meaning T.lens boards.old store.old)
-            (seen B.meaning T.lens boards.new store.new)
-    }
+    ensures flushing { IsFlushing b page (seen B.meaning T.lens boards.old store.old)
+        (seen B.meaning T.lens boards.new store.new) }
     ensures done { AreFlushed (caches T.lens boards.new) (holder + 1) page }
     ensures frames { store.new.frames ≡ store.old.frames }
     ensures backing { store.new.backing ≡ store.old.backing }
@@ -107,10 +103,8 @@ pub(crate) fn flush_block<T: HasCache, B: Backing>(
     requires there { HasLine (caches T.lens boards.old) holder at is_alive }
     requires leaving { IsLeavingBlock (seen B.meaning T.lens boards.old store.old) at }
     requires room { 1 ≤ store.old.history.room }
-    ensures drops {
-        DropsBlock b holder at (seen B.meaning T.lens boards.old store.old)
-            (seen B.meaning T.lens boards.new store.new)
-    }
+    ensures drops { DropsBlock b holder at (seen B.meaning T.lens boards.old store.old)
+        (seen B.meaning T.lens boards.new store.new) }
     ensures frames { store.new.frames ≡ store.old.frames }
     ensures backing { store.new.backing ≡ store.old.backing }
     ensures lens { OnlyLines T.lens boards.old boards.new }

@@ -32,15 +32,11 @@ pub(crate) fn mark<T: HasCache, B: Backing>(
     requires stands { IsServable (seen B.meaning T.lens boards.old store.old) }
     requires may { MayMark (seen B.meaning T.lens boards.old store.old) b page change }
     requires room { entry_room ≤ store.old.history.room }
-    ensures runs {
-        Runs b (Writes page (entry_for change b page) (changed_word change) ∷ [])
-            (seen B.meaning T.lens boards.old store.old)
-            (seen B.meaning T.lens boards.new store.new)
-    }
-    ensures marked {
-        IsMarked b page change (seen B.meaning T.lens boards.old store.old)
-            (seen B.meaning T.lens boards.new store.new)
-    }
+    ensures runs { Runs b (Writes page (entry_for change b page) (changed_word change) ∷ [])
+        (seen B.meaning T.lens boards.old store.old)
+        (seen B.meaning T.lens boards.new store.new) }
+    ensures marked { IsMarked b page change (seen B.meaning T.lens boards.old store.old)
+        (seen B.meaning T.lens boards.new store.new) }
     ensures used { store.old.history.room ≤ store.new.history.room + entry_room }
     ensures frames { store.new.frames ≡ store.old.frames }
     ensures backing { store.new.backing ≡ store.old.backing }
@@ -63,10 +59,8 @@ pub(crate) fn reference<T: HasCache, B: Backing>(
     requires stands { IsServable (seen B.meaning T.lens boards.old store.old) }
     requires fault { HasFault (seen B.meaning T.lens boards.old store.old) b kind.Reference at }
     requires room { entry_room ≤ store.old.history.room }
-    ensures serves {
-        ServesAs b (seen B.meaning T.lens boards.old store.old) kind.Reference at (Ok (tt {0}))
-            (seen B.meaning T.lens boards.new store.new)
-    }
+    ensures serves { ServesAs b (seen B.meaning T.lens boards.old store.old) kind.Reference at (Ok (tt {0}))
+        (seen B.meaning T.lens boards.new store.new) }
     ensures lens { OnlyLines T.lens boards.old boards.new }
     ensures backing { store.new.backing ≡ store.old.backing }
 {
@@ -85,10 +79,8 @@ pub(crate) fn dirty<T: HasCache, B: Backing>(
     requires stands { IsServable (seen B.meaning T.lens boards.old store.old) }
     requires fault { HasFault (seen B.meaning T.lens boards.old store.old) b kind.Dirty at }
     requires room { entry_room ≤ store.old.history.room }
-    ensures serves {
-        ServesAs b (seen B.meaning T.lens boards.old store.old) kind.Dirty at (Ok (tt {0}))
-            (seen B.meaning T.lens boards.new store.new)
-    }
+    ensures serves { ServesAs b (seen B.meaning T.lens boards.old store.old) kind.Dirty at (Ok (tt {0}))
+        (seen B.meaning T.lens boards.new store.new) }
     ensures lens { OnlyLines T.lens boards.old boards.new }
     ensures backing { store.new.backing ≡ store.old.backing }
 {

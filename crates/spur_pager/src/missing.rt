@@ -30,18 +30,12 @@ pub(crate) fn leaving<T: HasCache, B: Backing>(
     requires stands { IsServable (seen B.meaning T.lens boards.old store.old) }
     requires fault { HasFault (seen B.meaning T.lens boards.old store.old) b kind.Leaving at }
     requires room { room_for (seen B.meaning T.lens boards.old store.old) kind.Leaving ≤ store.old.history.room }
-    ensures serves {
-        ServesAs b (seen B.meaning T.lens boards.old store.old) kind.Leaving at result
-            (seen B.meaning T.lens boards.new store.new)
-    }
-    ensures unused {
-        StaysFor
-            (seen B.meaning T.lens boards.old store.old) kind.Leaving store.old.backing store.new.backing
-    }
-    ensures counts {
-        CountsServing (seen B.meaning T.lens boards.old store.old) kind.Leaving result
-            (seen B.meaning T.lens boards.new store.new)
-    }
+    ensures serves { ServesAs b (seen B.meaning T.lens boards.old store.old) kind.Leaving at result
+        (seen B.meaning T.lens boards.new store.new) }
+    ensures unused { StaysFor
+        (seen B.meaning T.lens boards.old store.old) kind.Leaving store.old.backing store.new.backing }
+    ensures counts { CountsServing (seen B.meaning T.lens boards.old store.old) kind.Leaving result
+        (seen B.meaning T.lens boards.new store.new) }
     ensures lens { OnlyLines T.lens boards.old boards.new }
 {
     let Some(frame) = store.frames.leaving() else {
@@ -66,14 +60,10 @@ pub(crate) fn missing<T: HasCache, B: Backing>(
     requires stands { IsServable (seen B.meaning T.lens boards.old store.old) }
     requires fault { HasFault (seen B.meaning T.lens boards.old store.old) b kind.Missing at }
     requires room { room_for (seen B.meaning T.lens boards.old store.old) kind.Missing ≤ store.old.history.room }
-    ensures serves {
-        ServesAs b (seen B.meaning T.lens boards.old store.old) kind.Missing at result
-            (seen B.meaning T.lens boards.new store.new)
-    }
-    ensures counts {
-        CountsServing (seen B.meaning T.lens boards.old store.old) kind.Missing result
-            (seen B.meaning T.lens boards.new store.new)
-    }
+    ensures serves { ServesAs b (seen B.meaning T.lens boards.old store.old) kind.Missing at result
+        (seen B.meaning T.lens boards.new store.new) }
+    ensures counts { CountsServing (seen B.meaning T.lens boards.old store.old) kind.Missing result
+        (seen B.meaning T.lens boards.new store.new) }
     ensures lens { OnlyLines T.lens boards.old boards.new }
 {
     let slot = entry_here(boards[b as usize].cache(), at).number();

@@ -36,22 +36,14 @@ pub(crate) fn put_out<T: HasCache, B: Backing>(
     requires stands { IsServable (seen B.meaning T.lens boards.old store.old) }
     requires may { MayGoOut (seen B.meaning T.lens boards.old store.old) b frame page slot }
     requires room { entry_room ≤ store.old.history.room }
-    ensures out {
-        OnOk result (GoesOut b frame page slot (seen B.meaning T.lens boards.old store.old)
-            (seen B.meaning T.lens boards.new store.new))
-    }
-    ensures failed {
-        OnErr result (FailsToGoOut page (seen B.meaning T.lens boards.old store.old)
-            (seen B.meaning T.lens boards.new store.new))
-    }
-    ensures unwritten {
-        is_dirty (entry_in (seen B.meaning T.lens boards.old store.old) page) ≡ false → store.new.backing
-            ≡ store.old.backing
-    }
-    ensures counts {
-        CountsOut page (seen B.meaning T.lens boards.old store.old)
-            (seen B.meaning T.lens boards.new store.new)
-    }
+    ensures out { OnOk result (GoesOut b frame page slot (seen B.meaning T.lens boards.old store.old)
+        (seen B.meaning T.lens boards.new store.new)) }
+    ensures failed { OnErr result (FailsToGoOut page (seen B.meaning T.lens boards.old store.old)
+        (seen B.meaning T.lens boards.new store.new)) }
+    ensures unwritten { is_dirty (entry_in (seen B.meaning T.lens boards.old store.old) page) ≡ false → store.new.backing
+        ≡ store.old.backing }
+    ensures counts { CountsOut page (seen B.meaning T.lens boards.old store.old)
+        (seen B.meaning T.lens boards.new store.new) }
     ensures lens { OnlyLines T.lens boards.old boards.new }
 {
     let at = page_address(page);
@@ -74,14 +66,10 @@ pub(crate) fn put_out<T: HasCache, B: Backing>(
 fn save_page<B: Backing>(phys: &Phys, backing: &mut B, frame: u32, slot: u32) -> Result<(), Failed>
     requires frame { frame * 1024 + 1024 ≤ length phys.now }
     requires slot { slot < (B.meaning backing.old).slots }
-    ensures put {
-        OnOk result
-            ((B.meaning backing.new).pages ≡ told_with (B.meaning backing.old).pages slot (page_at phys.now frame))
-    }
+    ensures put { OnOk result
+        ((B.meaning backing.new).pages ≡ told_with (B.meaning backing.old).pages slot (page_at phys.now frame)) }
     ensures pages_stay { OnErr result ((B.meaning backing.new).pages ≡ (B.meaning backing.old).pages) }
-    ensures stays {
-        SameButFaults (after_write (B.meaning backing.old) (B.meaning backing.new).pages) (B.meaning backing.new)
-    }
+    ensures stays { SameButFaults (after_write (B.meaning backing.old) (B.meaning backing.new).pages) (B.meaning backing.new) }
     ensures later { (B.meaning backing.old).faults ≤ (B.meaning backing.new).faults }
     ensures cause { OnErr result ((B.meaning backing.old).faults < (B.meaning backing.new).faults) }
 {

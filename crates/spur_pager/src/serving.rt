@@ -53,29 +53,19 @@ pub fn serve<T: HasCache, B: Backing>(
     requires stands { IsServable (seen B.meaning T.lens boards.old store.old) }
     requires fault { HasFault (seen B.meaning T.lens boards.old store.old) b kind at }
     requires room { room_for (seen B.meaning T.lens boards.old store.old) kind ≤ store.old.history.room }
-    ensures does {
-        Does b (seen B.meaning T.lens boards.old store.old) kind at result
-            (seen B.meaning T.lens boards.new store.new)
-    }
-    ensures carried {
-        IsCarriedOn (seen B.meaning T.lens boards.old store.old)
-            (seen B.meaning T.lens boards.new store.new)
-    }
-    ensures ok {
-        OnOk result (IsServed b (seen B.meaning T.lens boards.old store.old) kind at
-            (seen B.meaning T.lens boards.new store.new))
-    }
-    ensures err {
-        IfErr result (λ why. HasFailed b (seen B.meaning T.lens boards.old store.old) kind at
-            (seen B.meaning T.lens boards.new store.new) why)
-    }
+    ensures does { Does b (seen B.meaning T.lens boards.old store.old) kind at result
+        (seen B.meaning T.lens boards.new store.new) }
+    ensures carried { IsCarriedOn (seen B.meaning T.lens boards.old store.old)
+        (seen B.meaning T.lens boards.new store.new) }
+    ensures ok { OnOk result (IsServed b (seen B.meaning T.lens boards.old store.old) kind at
+        (seen B.meaning T.lens boards.new store.new)) }
+    ensures err { IfErr result (λ why. HasFailed b (seen B.meaning T.lens boards.old store.old) kind at
+        (seen B.meaning T.lens boards.new store.new) why) }
     ensures boards { length boards.new ≡ length boards.old }
     ensures keeps { Keeps (seen B.meaning T.lens boards.old store.old) (seen B.meaning T.lens boards.new store.new) }
     ensures lens { OnlyLines T.lens boards.old boards.new }
-    ensures counts {
-        CountsServing (seen B.meaning T.lens boards.old store.old) kind result
-            (seen B.meaning T.lens boards.new store.new)
-    }
+    ensures counts { CountsServing (seen B.meaning T.lens boards.old store.old) kind result
+        (seen B.meaning T.lens boards.new store.new) }
     ensures unused { StaysFor (seen B.meaning T.lens boards.old store.old) kind store.old.backing store.new.backing }
 {
     match kind {

@@ -11,14 +11,11 @@ ghost use Rattle.spur_walk.specs.Plan.{page_climb, root_plan, table_place, table
 ghost use Rattle.spur_walk.specs.Tables.{block_address};
 
 use crate::looked::{Looked, look};
-use spur_addr::{GlobalAddr, Protection, Pte, pte_of};
+use spur_addr::{GlobalAddr, Protection, Pte, ROOT_FRAMES, pte_of};
 use spur_bus::Place;
 use spur_cache::Cache;
 use spur_flat::{AccessKind, FaultKind, Layer, first_fault};
 use spur_snoop::Need;
-
-/// How many frames the root table has: its page `n` stands in frame `n`.
-const ROOT_FRAMES: u32 = 64;
 
 /// The first step that applies towards an access, or towards the block of a page's entry.
 #[derive(Clone, Copy, Debug, PartialEq, Eq)]

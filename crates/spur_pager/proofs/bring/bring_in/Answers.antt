@@ -1,4 +1,4 @@
-use Rattle.std.proofs.Common.{ℕ, ◌≡◌, ◌*◌, List, map, subst, sym, true}
+use Rattle.std.proofs.Common.{ℕ, ◌≡◌, List, subst, sym, true, ap, refl}
 use Rattle.spur_addr.specs.PageEntry.{is_valid}
 use Rattle.spur_addr.specs.Pages.{with_page}
 use Rattle.spur_walk.specs.Present.{MayWalk}
@@ -7,7 +7,7 @@ use Rattle.spur_pager.specs.declared.change.Change.TheVariants.{In}
 use Rattle.spur_pager.specs.Acts.{loaded_hold}
 use Rattle.spur_pager.specs.Changes.{Changes, MayChange}
 use Rattle.spur_pager.specs.Served.{hold_of}
-use Rattle.spur_pager.specs.View.{View, seen, view_of}
+use Rattle.spur_pager.specs.View.{View, seen}
 use Rattle.spur_pager.proofs.CountFacts.{counts_read}
 use Rattle.spur_pager.proofs.ComeFacts.{changes_may, comes, frame_room, root, slot_small, walk}
 use Rattle.spur_bus.proofs.LensFacts.{only_lines-same}
@@ -79,5 +79,4 @@ returns-in_err-load_page-clause-counts g c =
 
 pub returns-clause-counts : goal.returns-clause-counts
 returns-clause-counts g c =
-    let new = record { phys = c.change_entry.new.phys; frames = c.take.new.self; backing = c.load_page.new.backing; history = c.change_entry.new.history; ahead = c.args.store.now.ahead } in
-    counts_read g.B.Backing.meaning g.T.HasCache.lens c.args.boards.now c.change_entry.new.boards c.args.store.now new c.load_page.ensures.stays c.load_page.ensures.later
+    counts_read g.B.Backing.meaning g.T.HasCache.lens c.args.boards.now c.change_entry.new.boards c.args.store.now (record { phys = c.change_entry.new.phys; frames = c.take.new.self; backing = c.load_page.new.backing; history = c.change_entry.new.history; ahead = c.args.store.now.ahead }) c.load_page.ensures.stays c.load_page.ensures.later

@@ -1,4 +1,4 @@
-use Rattle.std.proofs.Common.{ℕ, ◌≡◌, ◌<◌, ◌∙◌, Some, ap, map, refl, true, subst, sym}
+use Rattle.std.proofs.Common.{ℕ, ◌≡◌, ◌<◌, ◌∙◌, Some, ap, refl, true, subst, sym}
 use Rattle.std.proofs.lemmas.List.{length-map}
 use Rattle.spur_addr.specs.PageEntry.{is_referenced, is_valid}
 use Rattle.spur_frames.specs.Frames.{Frames}
@@ -7,7 +7,7 @@ use Rattle.spur_pager.specs.declared.change.Change.TheVariants.{Unreferenced}
 use Rattle.spur_pager.specs.Changes.{Changes, MayChange, clock_change, hold_entry}
 use Rattle.spur_pager.specs.Served.{hold_of}
 use Rattle.spur_addr.specs.Address.{page_address}
-use Rattle.spur_pager.specs.View.{View, seen, view_of}
+use Rattle.spur_pager.specs.View.{View, seen}
 use Rattle.spur_pager.proofs.LookFacts.{IsFound, chose_clear, chose_leave, look_clears, look_leaves, look_may, look_root}
 use Rattle.spur_pager.proofs.RunFacts.{past_of}
 use Rattle.spur_pager.proofs.clock.look_once.Goals as goal

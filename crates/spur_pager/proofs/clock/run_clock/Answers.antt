@@ -1,5 +1,5 @@
-use Rattle.std.proofs.Common.{◌<◌, ◌∙◌, ℕ, map, refl, subst, sym}
-use Rattle.spur_pager.specs.View.{View, seen, view_of}
+use Rattle.std.proofs.Common.{◌<◌, ◌∙◌, ℕ, refl, subst, sym}
+use Rattle.spur_pager.specs.View.{View, seen}
 use Rattle.spur_bus.proofs.LensFacts.{only_lines-same, only_lines-then}
 use Rattle.spur_pager.proofs.TurnFacts.{fewer, turned_all, turning_more, turning_none}
 use Rattle.spur_pager.proofs.clock.run_clock.Goals as goal

@@ -1,6 +1,6 @@
-use Rattle.std.proofs.Common.{◌≡◌, ◌<◌, length, map}
+use Rattle.std.proofs.Common.{◌≡◌, ◌<◌, length}
 use Rattle.spur_cache.specs.Lens.{OnlyLines}
-use Rattle.spur_pager.specs.View.{seen, view_of}
+use Rattle.spur_pager.specs.View.{seen}
 use Rattle.spur_pager.proofs.TurnFacts.{IsTurning, left}
 use Rattle.spur_pager.proofs.clock.run_clock.Given as goal
 

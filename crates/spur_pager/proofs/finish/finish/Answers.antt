@@ -1,8 +1,9 @@
-use Rattle.std.proofs.Common.{◌<◌, ℕ, ap, map, subst, sym}
+use Rattle.spur_pager.proofs.CountFacts.{same_swap}
+use Rattle.std.proofs.Common.{◌<◌, ℕ, ap, subst, sym}
 use Rattle.std.proofs.lemmas.List.{length-map}
 use Rattle.spur_pager.specs.Moves.{FailsToGoOut, GoesOut}
-use Rattle.spur_pager.specs.View.{View, seen, view_of}
-use Rattle.spur_pager.proofs.FinishFacts.{IsOfLeaving, clean_still, finished, leaving_is, may_go_out, not_finished, on_err, on_ok}
+use Rattle.spur_pager.specs.View.{View, seen}
+use Rattle.spur_pager.proofs.FinishFacts.{IsOfLeaving, clean_still, finished, leaving_is, may_go_out, not_finished, on_err, on_ok, counts_finish}
 use Rattle.spur_pager.proofs.EntryFacts.{leaving_taken}
 use Rattle.spur_bus.proofs.LensFacts.{only_lines-then}
 use Rattle.spur_pager.proofs.finish.finish.Goals as goal

@@ -1,6 +1,7 @@
-use Rattle.std.proofs.Common.{◌∙◌, ap, map, sym}
-use Rattle.spur_pager.specs.View.{View, seen, view_of}
-use Rattle.spur_pager.proofs.FinishFacts.{err_so, freed, none_is, not_freed, room_to_finish, was_free}
+use Rattle.spur_pager.proofs.CountFacts.{same_swap}
+use Rattle.std.proofs.Common.{◌∙◌, ap, sym, refl}
+use Rattle.spur_pager.specs.View.{View, seen}
+use Rattle.spur_pager.proofs.FinishFacts.{err_so, freed, none_is, not_freed, room_to_finish, was_free, counts_none, counts_freeing}
 use Rattle.spur_bus.proofs.LensFacts.{only_lines-same, only_lines-then}
 use Rattle.spur_pager.proofs.finish.free_frame.Goals as goal
 

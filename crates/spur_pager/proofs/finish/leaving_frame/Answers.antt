@@ -1,5 +1,5 @@
-use Rattle.std.proofs.Common.{◌∙◌, map, sym}
-use Rattle.spur_pager.specs.View.{View, seen, view_of}
+use Rattle.std.proofs.Common.{◌∙◌, sym}
+use Rattle.spur_pager.specs.View.{View, seen}
 use Rattle.spur_pager.proofs.FinishFacts.{full_looks, is_leaving_now, none_is, was_leaving}
 use Rattle.spur_bus.proofs.LensFacts.{only_lines-same}
 use Rattle.spur_pager.proofs.finish.leaving_frame.Goals as goal

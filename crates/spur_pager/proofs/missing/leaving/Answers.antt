@@ -1,9 +1,10 @@
-use Rattle.std.proofs.Common.{◌<◌, ◌∙◌, ℕ, map, subst, sym}
+use Rattle.std.proofs.Common.{◌<◌, ◌∙◌, ℕ, subst, sym}
+use Rattle.spur_pager.proofs.FinishFacts.{counts_leaving}
 use Rattle.std.proofs.lemmas.List.{length-map}
 use Rattle.spur_addr.specs.PageEntry.{number_of}
 use Rattle.spur_addr.specs.Address.{page_of}
 use Rattle.spur_pager.specs.Stand.{entry_in}
-use Rattle.spur_pager.specs.View.{View, seen, view_of}
+use Rattle.spur_pager.specs.View.{View, seen}
 use Rattle.spur_pager.proofs.ServeFacts.{leaving_at, leaving_not_served, leaving_served, same_frame}
 use Rattle.spur_pager.proofs.missing.leaving.Goals as goal
 

@@ -1,4 +1,6 @@
-use Rattle.std.proofs.Common.{◌≡◌, ◌<◌, ◌∙◌, ℕ, List, Option, ap, map, subst, sym}
+use Rattle.spur_pager.specs.Served.{writes_to_free}
+use Rattle.std.proofs.Common.{◌≡◌, ◌<◌, ◌∙◌, ℕ, List, Option, ap, subst, sym}
+use Rattle.spur_pager.proofs.CountFacts.{counts_then}
 use Rattle.std.specs.Prelude.{IsSome, IsTrue}
 use Rattle.std.proofs.lemmas.List.{length-map}
 use Rattle.spur_addr.specs.Address.{entry_address_of, page_of}
@@ -10,7 +12,7 @@ use Rattle.spur_bus.proofs.BoardFacts.{lines_here}
 use Rattle.spur_walk.proofs.TableFacts.{entry_readable}
 use Rattle.spur_pager.specs.Stand.{entry_in}
 use Rattle.spur_pager.specs.Moves.{ComesIn, MayComeIn}
-use Rattle.spur_pager.specs.View.{View, seen, view_of}
+use Rattle.spur_pager.specs.View.{View, seen}
 use Rattle.spur_bus.proofs.LensFacts.{only_lines-then}
 use Rattle.spur_pager.proofs.ServeFacts.{absent_entry, block_some, entry_block_there, entry_there, may_come_in, missing_not_freed, missing_not_read, missing_served}
 use Rattle.spur_pager.proofs.missing.missing.Goals as goal

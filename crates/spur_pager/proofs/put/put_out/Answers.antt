@@ -1,4 +1,4 @@
-use Rattle.std.proofs.Common.{◌∙◌, ◌≤◌, ◌*◌, arith, ℕ, Bool, true, false, ◌≡◌, ap, map, refl, subst, sym}
+use Rattle.std.proofs.Common.{◌∙◌, ℕ, Bool, true, false, ◌≡◌, ap, map, refl, subst, sym}
 use Rattle.spur_addr.specs.PageEntry.{is_dirty}
 use Rattle.spur_flat.specs.Pager.{word_of}
 use Rattle.spur_frames.specs.Frames.{IsTaken, release_frame}
@@ -11,7 +11,7 @@ use Rattle.spur_pager.specs.Drops.{IsUnheld}
 use Rattle.spur_pager.specs.Served.{hold_of}
 use Rattle.spur_addr.specs.Address.{page_address}
 use Rattle.spur_pager.specs.Stand.{entry_in}
-use Rattle.spur_pager.specs.View.{View, seen, view_of}
+use Rattle.spur_pager.specs.View.{View, seen}
 use Rattle.spur_bus.proofs.LensFacts.{only_lines-same}
 use Rattle.spur_pager.proofs.CountFacts.{counts_unwritten, counts_wrote}
 use Rattle.spur_pager.proofs.MoveFacts.{out_may}
@@ -123,12 +123,11 @@ returns-clause-counts g c =
     let w : View = seen g.B.Backing.meaning g.T.HasCache.lens c.args.boards.now c.args.store.now in
     let word = c.standing_entry.ensures ∙ ap (λ (n : ℕ). word_of (logical_flat w.caches w.memory) n) c.page_address-at.ensures in
     let known = sym (c.dirty.ensures ∙ ap (λ (e : ℕ). is_dirty e) word) in
-    let new = record { phys = c.change_entry.new.phys; frames = c.release.new.self; backing = c.if-dirty.store.backing; history = c.change_entry.new.history; ahead = c.if-dirty.store.ahead } in
     elim c.if-dirty.branch [
       | then-dirty+in_ok-save_page x ↦
-          counts_wrote g.B.Backing.meaning g.T.HasCache.lens c.args.boards.now c.change_entry.new.boards c.args.store.now new (is_dirty (entry_in w c.args.page))
+          counts_wrote g.B.Backing.meaning g.T.HasCache.lens c.args.boards.now c.change_entry.new.boards c.args.store.now (record { phys = c.change_entry.new.phys; frames = c.release.new.self; backing = c.if-dirty.store.backing; history = c.change_entry.new.history; ahead = c.if-dirty.store.ahead }) (is_dirty (entry_in w c.args.page))
           (known ∙ x.if-dirty.true) (ap (λ s. s.backing) x.store-is) x.in_ok-save_page.ensures.stays x.in_ok-save_page.ensures.later
       | else-dirty x ↦
-          counts_unwritten g.B.Backing.meaning g.T.HasCache.lens c.args.boards.now c.change_entry.new.boards c.args.store.now new (is_dirty (entry_in w c.args.page))
+          counts_unwritten g.B.Backing.meaning g.T.HasCache.lens c.args.boards.now c.change_entry.new.boards c.args.store.now (record { phys = c.change_entry.new.phys; frames = c.release.new.self; backing = c.if-dirty.store.backing; history = c.change_entry.new.history; ahead = c.if-dirty.store.ahead }) (is_dirty (entry_in w c.args.page))
           (known ∙ x.if-dirty.false) (ap (λ s. s.backing) x.store-is)
     ]

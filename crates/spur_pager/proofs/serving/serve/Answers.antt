@@ -1,7 +1,8 @@
-use Rattle.std.proofs.Common.{map, subst, sym}
+use Rattle.spur_pager.proofs.CountFacts.{counts_same, same_swap}
+use Rattle.std.proofs.Common.{subst, sym, Ok}
 use Rattle.spur_flat.specs.declared.access.FaultKind.{FaultKind}
-use Rattle.spur_pager.specs.Served.{Leaves, StaysFor}
-use Rattle.spur_pager.specs.View.{View, seen, view_of}
+use Rattle.spur_pager.specs.Served.{Leaves, StaysFor, CountsServing}
+use Rattle.spur_pager.specs.View.{View, seen}
 use Rattle.spur_pager.proofs.ServiceFacts.{leaves_err, leaves_ok}
 use Rattle.spur_pager.proofs.serving.serve.Goals as goal
 
