@@ -9,6 +9,7 @@ use Rattle.spur_flat.specs.TagLines.{tags_on}
 use Rattle.spur_bus.specs.Calls.{tags_of, line_count}
 use Rattle.spur_bus.specs.Stand.{flat_of, state_of, IsOfBus, BusSteps, BusIsCarried, BusIsCarriedUntold}
 use Rattle.spur_flat.specs.History.{on, IsAllowed}
+use Rattle.spur_flat.specs.State.{beside_on}
 use Rattle.spur_flat.specs.Laws.{address_of}
 use Rattle.spur_flat.proofs.UntoldFacts.{untold-where-told}
 use Rattle.spur_flat.specs.Needed.{open_on}
@@ -50,21 +51,21 @@ allowed F (entry.SetDirty b at) is = absurd is
 allowed F (entry.ClearRef b at) is = absurd is
 
 pub bus-steps : BusSteps
-bus-steps rest before after old new opened e bus moves =
+bus-steps rest before after old new beside e bus moves =
     let F : Flat = flat_of rest before old in
     let flat : flat_of rest after new ≡ on F e = ap (λ (ws : List ℕ). record rest { words = ws }) moves.logical ∙ sym (on_same F e bus) in
-    ap (λ (G : Flat). record { flat = G; tags = tags_of after; opened = open_on opened e; lines = line_count after }) flat
-    ∙ ap (λ (t : List (List (Option Tag))). record { flat = on F e; tags = t; opened = open_on opened e; lines = line_count after }) moves.tags
-    ∙ ap (λ (n : ℕ). record { flat = on F e; tags = tags_on F (tags_of before) e; opened = open_on opened e; lines = n }) moves.lines
+    ap (λ (G : Flat). record { flat = G; tags = tags_of after; opened = open_on beside.opened e; lines = line_count after }) flat
+    ∙ ap (λ (t : List (List (Option Tag))). record { flat = on F e; tags = t; opened = open_on beside.opened e; lines = line_count after }) moves.tags
+    ∙ ap (λ (n : ℕ). record { flat = on F e; tags = tags_on F (tags_of before) e; opened = open_on beside.opened e; lines = n }) moves.lines
 
 pub bus-carried : BusIsCarried
-bus-carried rest before after old new opened e bus moves tagged needed = record {
+bus-carried rest before after old new beside e bus moves tagged needed = record {
   follows = (record { legal = allowed (flat_of rest before old) e bus; tagged = tagged; needed = needed }, tt);
-  leads = sym (bus-steps rest before after old new opened e bus moves);
+  leads = sym (bus-steps rest before after old new beside e bus moves);
 }
 
 pub bus-untold : BusIsCarriedUntold
-bus-untold rest before after old new opened e bus small valid moves tagged needed =
-    untold-where-told (state_of rest before old opened) (state_of rest after new (open_on opened e)) (e ∷ []) valid
+bus-untold rest before after old new beside e bus small valid moves tagged needed =
+    untold-where-told (state_of rest before old beside) (state_of rest after new (beside_on beside e)) (e ∷ []) valid
     (All-cons (λ (entry : Entry). address_of entry < 2 ^ 38) e [] small (All-nil (λ (entry : Entry). address_of entry < 2 ^ 38)))
-    (bus-carried rest before after old new opened e bus moves tagged needed)
+    (bus-carried rest before after old new beside e bus moves tagged needed)

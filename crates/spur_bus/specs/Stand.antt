@@ -10,9 +10,9 @@ use Rattle.spur_flat.specs.declared.entry.Layer.{Layer}
 use Rattle.spur_flat.specs.declared.entry.Entry.{Entry}
 use Rattle.spur_flat.specs.declared.entry.Entry.TheVariants.{Fill, Claim, WriteBack, Refresh, BlockFlush}
 use Rattle.spur_flat.specs.Blocks.{entry_block, layer_of, is_layer}
-use Rattle.spur_flat.specs.Needed.{lack_of, open_on}
+use Rattle.spur_flat.specs.Needed.{lack_of}
 use Rattle.spur_flat.specs.Pager.{word_of}
-use Rattle.spur_flat.specs.State.{State, step, IsCarried}
+use Rattle.spur_flat.specs.State.{Beside, State, beside_on, step, IsCarried}
 use Rattle.spur_flat.specs.TagLines as tag
 use Rattle.spur_flat.specs.TagRules.{tags_refusal, table_refusal, may_claim}
 use Rattle.spur_flat.specs.Laws.{address_of}
@@ -26,10 +26,10 @@ use Rattle.spur_bus.specs.Calls.{HasLine, MayRead, tags_of, line_count}
 abbrev pub flat_of : Flat → List (List (Option Line)) → List ℕ → Flat
 flat_of rest caches memory = record rest { words = logical_words caches memory }
 
--- the state that stands, where each board has these open entries
-abbrev pub state_of : Flat → List (List (Option Line)) → List ℕ → List (List Entry) → State
-state_of rest caches memory opened =
-    record { flat = flat_of rest caches memory; tags = tags_of caches; opened = opened; lines = line_count caches }
+-- the state that stands, with this beside memory and lines
+abbrev pub state_of : Flat → List (List (Option Line)) → List ℕ → Beside → State
+state_of rest caches memory beside =
+    record { flat = flat_of rest caches memory; tags = tags_of caches; opened = beside.opened; lines = line_count caches }
 
 -- an entry of the bus, or of a line's dirty copy: it changes no flat state, and each flat state allows it
 abbrev pub IsOfBus : Entry → Type 0
@@ -49,25 +49,28 @@ pub record Moves (F : Flat) (before after : List (List (Option Line))) (old new 
 
 -- such a call is one step of the state that stands: that of its entry
 abbrev pub BusSteps : Type 0
-BusSteps = (rest : Flat) (before after : List (List (Option Line))) (old new : List ℕ) (opened : List (List Entry)) (entry : Entry)
-    → IsOfBus entry → Moves (flat_of rest before old) before after old new entry
-    → state_of rest after new (open_on opened entry) ≡ step (state_of rest before old opened) entry
+BusSteps = (rest : Flat) (before after : List (List (Option Line))) (old new : List ℕ) (beside : Beside)
+    (entry : Entry) → IsOfBus entry → Moves (flat_of rest before old) before after old new entry
+    → state_of rest after new (beside_on beside entry) ≡ step (state_of rest before old beside) entry
 
 -- and the piece of its one entry is carried from the state before it to the state after it, where the tags allow the
 -- entry and the open entries need it
 abbrev pub BusIsCarried : Type 0
-BusIsCarried = (rest : Flat) (before after : List (List (Option Line))) (old new : List ℕ) (opened : List (List Entry)) (entry : Entry)
-    → IsOfBus entry → Moves (flat_of rest before old) before after old new entry
-    → tags_refusal (flat_of rest before old) (tags_of before) entry ≡ None → lack_of (line_count before) opened entry ≡ None
-    → IsCarried (state_of rest before old opened) (state_of rest after new (open_on opened entry)) (entry ∷ [])
+BusIsCarried = (rest : Flat) (before after : List (List (Option Line))) (old new : List ℕ) (beside : Beside)
+    (entry : Entry) → IsOfBus entry → Moves (flat_of rest before old) before after old new entry
+    → tags_refusal (flat_of rest before old) (tags_of before) entry ≡ None
+    → lack_of (line_count before) beside.opened entry ≡ None
+    → IsCarried (state_of rest before old beside) (state_of rest after new (beside_on beside entry)) (entry ∷ [])
 
 -- the same where the swap does not tell its pages, from a valid state: what is like it has the same tables, so the tags say
 -- the same of the entry there
 abbrev pub BusIsCarriedUntold : Type 0
-BusIsCarriedUntold = (rest : Flat) (before after : List (List (Option Line))) (old new : List ℕ) (opened : List (List Entry)) (entry : Entry)
-    → IsOfBus entry → address_of entry < 2 ^ 38 → IsValidFlat (flat_of rest before old) → Moves (flat_of rest before old) before after old new entry
-    → tags_refusal (flat_of rest before old) (tags_of before) entry ≡ None → lack_of (line_count before) opened entry ≡ None
-    → IsCarriedUntold (state_of rest before old opened) (state_of rest after new (open_on opened entry)) (entry ∷ [])
+BusIsCarriedUntold = (rest : Flat) (before after : List (List (Option Line))) (old new : List ℕ) (beside : Beside)
+    (entry : Entry) → IsOfBus entry → address_of entry < 2 ^ 38 → IsValidFlat (flat_of rest before old)
+    → Moves (flat_of rest before old) before after old new entry
+    → tags_refusal (flat_of rest before old) (tags_of before) entry ≡ None
+    → lack_of (line_count before) beside.opened entry ≡ None
+    → IsCarriedUntold (state_of rest before old beside) (state_of rest after new (beside_on beside entry)) (entry ∷ [])
 
 -- the tags allow the entry of a claim and of a write-back wherever the call may be made, in every flat state
 abbrev pub ClaimIsTagged : Type 0

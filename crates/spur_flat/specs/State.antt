@@ -1,5 +1,5 @@
 -- The state that stands after a history, and the pieces of a history that may follow it.
-use Rattle.std.specs.Prelude.{ℕ, ◌≡◌, ⊤, ◌+◌, List, [], ◌∷◌, Option, None, replicate}
+use Rattle.std.specs.Prelude.{ℕ, ◌≡◌, ⊤, ◌+◌, List, [], ◌∷◌, Option, None, replicate, slice_set}
 use Rattle.spur_flat.specs.declared.flat.Flat.{Flat}
 use Rattle.spur_flat.specs.declared.tag.Tag.{Tag}
 use Rattle.spur_flat.specs.declared.illegal.Illegal.{Illegal}
@@ -32,6 +32,22 @@ step S entry = record { flat = on S.flat entry; tags = tags_on S.flat S.tags ent
 abbrev pub state_after : State → List Entry → State
 state_after S [] = S
 state_after S (entry ∷ rest) = state_after (step S entry) rest
+
+-- what stands beside memory and lines: the open entries of every board
+pub record Beside : Type 0 where
+  pub opened : List (List Entry)
+
+-- the same after an entry
+abbrev pub beside_on : Beside → Entry → Beside
+beside_on beside entry = record beside { opened = open_on beside.opened entry }
+
+-- the same where a board is served: it has no open entry
+abbrev pub served_beside : Beside → ℕ → Beside
+served_beside beside board = record beside { opened = slice_set beside.opened board [] }
+
+-- no board has an open entry
+abbrev pub nothing_beside : ℕ → Beside
+nothing_beside boards = record { opened = replicate boards [] }
 
 -- an entry may follow: it is allowed in the flat state, by the tags and by the open entries
 pub record MayFollow (S : State) (entry : Entry) : Type 0 where

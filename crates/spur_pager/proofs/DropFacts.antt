@@ -6,9 +6,8 @@ use Rattle.spur_cache.specs.declared.line.Line.{Line}
 use Rattle.spur_flat.specs.declared.flat.Flat.{Flat}
 use Rattle.spur_flat.specs.declared.entry.Entry.{Entry}
 use Rattle.spur_flat.specs.declared.entry.Entry.TheVariants.{BlockFlush}
-use Rattle.spur_flat.specs.Needed.{open_on}
 use Rattle.spur_flat.specs.Pager.{word_of}
-use Rattle.spur_flat.specs.State.{IsCarried, State}
+use Rattle.spur_flat.specs.State.{IsCarried, State, beside_on, nothing_beside}
 use Rattle.spur_snoop.specs.Protocol.{is_alive}
 use Rattle.spur_flat.specs.TagRules.{tags_refusal}
 use Rattle.spur_flat.specs.Untold.{IsCarriedUntold}
@@ -92,10 +91,10 @@ module _ (b holder g : ℕ) (w v : View) (own : b < length w.caches) (within : h
     clean = λ (words : List ℕ) (is : v.pages ≡ Some words). subst AreClean (sym (flat_same rest)) (st.clean words (sym d.pages ∙ is));
   }
 
-  state_is : (rest : Flat) → state_of (with_told rest w.pages) v.caches v.memory (open_on (none_open (length w.caches)) (BlockFlush b holder (block_start_of g))) ≡ standing_state rest v
+  state_is : (rest : Flat) → state_of (with_told rest w.pages) v.caches v.memory (beside_on (nothing_beside (length w.caches)) (BlockFlush b holder (block_start_of g))) ≡ standing_state rest v
   state_is rest =
-      ap (state_of (with_told rest w.pages) v.caches v.memory) (none_same (length w.caches) b ∙ ap none_open (sym boards))
-      ∙ ap (λ (p : Option (List ℕ)). state_of (with_told rest p) v.caches v.memory (none_open (length v.caches))) (sym d.pages)
+      ap (λ (os : List (List Entry)). state_of (with_told rest w.pages) v.caches v.memory (record { opened = os })) (none_same (length w.caches) b ∙ ap none_open (sym boards))
+      ∙ ap (λ (p : Option (List ℕ)). state_of (with_told rest p) v.caches v.memory (nothing_beside (length v.caches))) (sym d.pages)
 
   moves : (F : Flat) → Moves F w.caches v.caches w.memory v.memory (BlockFlush b holder (block_start_of g))
   moves F = record { logical = d.logical; lines = d.lines; tags = d.tags F }
@@ -115,9 +114,9 @@ module _ (b holder g : ℕ) (w v : View) (own : b < length w.caches) (within : h
     carries = λ (rest : Flat) (st : Stands rest w). record {
       carried = record {
         told = λ (words : List ℕ) (is : w.pages ≡ Some words). subst (λ (S : State). IsCarried (standing_state rest w) S (BlockFlush b holder (block_start_of g) ∷ [])) (state_is rest)
-            (bus-carried (with_told rest w.pages) w.caches v.caches w.memory v.memory (none_open (length w.caches)) (BlockFlush b holder (block_start_of g)) tt (moves (standing_flat rest w)) (tagged (standing_flat rest w) refl) refl);
+            (bus-carried (with_told rest w.pages) w.caches v.caches w.memory v.memory (nothing_beside (length w.caches)) (BlockFlush b holder (block_start_of g)) tt (moves (standing_flat rest w)) (tagged (standing_flat rest w) refl) refl);
         untold = subst (λ (S : State). IsCarriedUntold (standing_state rest w) S (BlockFlush b holder (block_start_of g) ∷ [])) (state_is rest)
-            (bus-untold (with_told rest w.pages) w.caches v.caches w.memory v.memory (none_open (length w.caches)) (BlockFlush b holder (block_start_of g)) tt
+            (bus-untold (with_told rest w.pages) w.caches v.caches w.memory v.memory (nothing_beside (length w.caches)) (BlockFlush b holder (block_start_of g)) tt
             made.small st.valid (moves (standing_flat rest w)) (tagged (standing_flat rest w) refl) refl);
       };
       stands = stands rest st;

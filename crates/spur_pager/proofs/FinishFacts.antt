@@ -1,6 +1,6 @@
 -- The leaving page is finished, and a frame is made free.
 use Rattle.spur_pager.proofs.PlaceFacts.{within}
-use Rattle.std.proofs.Common.{◌≡◌, ◌≢◌, ◌∙◌, ℕ, zero, suc, ◌+◌, ◌-◌, ◌<◌, ◌≤◌, true, false, ap, sym, refl, subst, List, [], ◌∷◌, ◌++◌, get_or, length, replicate, slice_set, Option, Some, None, arith}
+use Rattle.std.proofs.Common.{◌≡◌, ◌≢◌, ◌∙◌, ℕ, zero, suc, ◌+◌, ◌-◌, ◌<◌, ◌≤◌, true, false, ap, sym, refl, subst, List, [], ◌∷◌, ◌++◌, get_or, length, slice_set, Option, Some, None, arith}
 use Rattle.std.specs.Prelude.{is_none, ◌&&◌, IsSome, OnErr, OnOk, Result, Ok, Err}
 use Rattle.std.proofs.lemmas.List.{get_or-set_same}
 use Rattle.std.proofs.lemmas.List as L
@@ -10,6 +10,7 @@ use Rattle.spur_cache.specs.declared.line.Line.{Line}
 use Rattle.spur_flat.specs.declared.flat.Flat.{Flat}
 use Rattle.spur_flat.specs.declared.entry.Entry.{Entry}
 use Rattle.spur_flat.specs.Pager.{word_of}
+use Rattle.spur_flat.specs.State.{nothing_beside}
 use Rattle.spur_snoop.specs.Protocol.{is_exclusive}
 use Rattle.spur_bus.specs.Calls.{HasLine}
 use Rattle.spur_bus.specs.Stand.{state_of}
@@ -55,9 +56,9 @@ err_so (Err e) p = p
 -- What was seen is the same but for the counts of the swap, the history and its room.
 same_state : (rest : Flat) (w v : View) → HasSwapFailed w v → standing_state rest v ≡ standing_state rest w
 same_state rest w v same =
-    ap (λ (p : Option (List ℕ)). state_of (with_told rest p) v.caches v.memory (replicate (length v.caches) [])) same.pages
-    ∙ ap (λ (cs : List (List (Option Line))). state_of (with_told rest w.pages) cs v.memory (replicate (length cs) [])) same.caches
-    ∙ ap (λ (m : List ℕ). state_of (with_told rest w.pages) w.caches m (replicate (length w.caches) [])) same.memory
+    ap (λ (p : Option (List ℕ)). state_of (with_told rest p) v.caches v.memory (nothing_beside (length v.caches))) same.pages
+    ∙ ap (λ (cs : List (List (Option Line))). state_of (with_told rest w.pages) cs v.memory (nothing_beside (length cs))) same.caches
+    ∙ ap (λ (m : List ℕ). state_of (with_told rest w.pages) w.caches m (nothing_beside (length w.caches))) same.memory
 
 -- a state stands by what is seen but for these
 stands_so : (rest : Flat) (w : View) (faults reads writes room ahead : ℕ) (history : List Entry) → Stands rest w

@@ -1,12 +1,12 @@
 -- What the pager needs of the state that stands, and keeps: beside what the walk needs, what is said of present pages, of
 -- frames and of clean pages.
-use Rattle.std.specs.Prelude.{ℕ, ◌≡◌, ◌+◌, ◌<◌, true, List, [], replicate, length, Option, Some, None}
+use Rattle.std.specs.Prelude.{ℕ, ◌≡◌, ◌+◌, ◌<◌, true, List, length, Option, Some, None}
 use Rattle.spur_addr.specs.Address.{page_address, user_pages}
 use Rattle.spur_addr.specs.PageEntry.{is_valid, is_leaving, number_of}
 use Rattle.spur_flat.specs.declared.flat.Flat.{Flat}
 use Rattle.spur_flat.specs.declared.entry.Entry.{Entry}
 use Rattle.spur_flat.specs.Pager.{position_in, word_of}
-use Rattle.spur_flat.specs.State.{State, IsCarried}
+use Rattle.spur_flat.specs.State.{State, IsCarried, nothing_beside}
 use Rattle.spur_flat.specs.Untold.{IsCarriedUntold}
 use Rattle.spur_flat.specs.Clean.{AreClean}
 use Rattle.spur_flat.specs.Validity.{IsDeclared, IsValidFlat}
@@ -35,9 +35,9 @@ with_told rest (Some words) = record rest { swap = words }
 abbrev pub standing_flat : Flat → View → Flat
 standing_flat rest w = flat_of (with_told rest w.pages) w.caches w.memory
 
--- the state that stands, where no board has open entries
+-- the state that stands, where no board has an open entry
 abbrev pub standing_state : Flat → View → State
-standing_state rest w = state_of (with_told rest w.pages) w.caches w.memory (replicate (length w.caches) [])
+standing_state rest w = state_of (with_told rest w.pages) w.caches w.memory (nothing_beside (length w.caches))
 
 -- a taken frame holds a page that is valid with that frame, and its slot
 pub record FrameHolds (F : Flat) (frame page slot : ℕ) : Type 0 where

@@ -11,7 +11,7 @@ use Rattle.spur_flat.specs.Blocks.{board_of, role_of}
 use Rattle.spur_flat.specs.History.{on}
 use Rattle.spur_flat.specs.Laws.{address_of}
 use Rattle.spur_flat.specs.Needed.{lack_in, open_on}
-use Rattle.spur_flat.specs.State.{IsCarried, State, step}
+use Rattle.spur_flat.specs.State.{Beside, IsCarried, State, served_beside, step}
 use Rattle.spur_flat.specs.StateLaws.{IsAccess}
 use Rattle.spur_flat.specs.Table.{walk_of}
 use Rattle.spur_flat.specs.TagLines.{tags_on}
@@ -63,17 +63,17 @@ on_words rest ws (entry.SetDirty b at) is = absurd is
 on_words rest ws (entry.ClearRef b at) is = absurd is
 
 pub access-carried : AccessIsCarried
-access-carried rest before after memory opened e is may lacks leaves =
+access-carried rest before after memory beside e is may lacks leaves =
     let F : Flat = flat_of rest before memory in
-    let S : State = state_of rest before memory opened in
-    let none : List (List Entry) = slice_set opened (board_of e) [] in
-    let to : State = state_of rest after memory none in
+    let S : State = state_of rest before memory beside in
+    let served : Beside = served_beside beside (board_of e) in
+    let to : State = state_of rest after memory served in
     let flat : on F e ≡ flat_of rest after memory = on_words rest (logical_words before memory) e is ∙ ap (λ (ws : List ℕ). record rest { words = ws }) (sym leaves.logical) in
     let leads : step S e ≡ to =
-    ap (λ (G : Flat). record { flat = G; tags = tags_on F (tags_of before) e; opened = open_on opened e; lines = line_count before }) flat
-    ∙ ap (λ (T : List (List (Option Tag))). record { flat = flat_of rest after memory; tags = T; opened = open_on opened e; lines = line_count before }) (tags_same F (tags_of before) e is ∙ sym leaves.tags)
-    ∙ ap (λ (o : List (List Entry)). record { flat = flat_of rest after memory; tags = tags_of after; opened = o; lines = line_count before }) (open_emptied opened e is)
-    ∙ ap (λ (n : ℕ). record { flat = flat_of rest after memory; tags = tags_of after; opened = none; lines = n }) (sym leaves.lines) in
+    ap (λ (G : Flat). record { flat = G; tags = tags_on F (tags_of before) e; opened = open_on beside.opened e; lines = line_count before }) flat
+    ∙ ap (λ (T : List (List (Option Tag))). record { flat = flat_of rest after memory; tags = T; opened = open_on beside.opened e; lines = line_count before }) (tags_same F (tags_of before) e is ∙ sym leaves.tags)
+    ∙ ap (λ (o : List (List Entry)). record { flat = flat_of rest after memory; tags = tags_of after; opened = o; lines = line_count before }) (open_emptied beside.opened e is)
+    ∙ ap (λ (n : ℕ). record { flat = flat_of rest after memory; tags = tags_of after; opened = served.opened; lines = n }) (sym leaves.lines) in
     let carried : IsCarried S to (e ∷ []) = record { follows = (record { legal = may.told rest; tagged = may.tagged F; needed = lacks }, tt); leads = leads } in
     record {
       told = carried;
@@ -82,7 +82,7 @@ access-carried rest before after memory opened e is may lacks leaves =
     }
 
 pub align-stands : AlignMayStand
-align-stands caches memory b at kind opened apart =
+align-stands caches memory b at kind beside apart =
     let e : Entry = entry.Fault b fault.Align kind at in
     let may_be : (o : Option ℕ) → may o kind at (Some fault.Align) ≡ true = λ (o : Option ℕ). ap (λ (x : Bool). if x then may_aligned o kind (Some fault.Align) else is_align (Some fault.Align)) apart in
     record {
@@ -91,7 +91,7 @@ align-stands caches memory b at kind opened apart =
         untold = λ (F : Flat) (has : HasTablesOf F (logical_words caches memory)). may_be (walk_of F at);
         tagged = λ (F : Flat). refl;
       };
-      needed = λ (none : get_or opened b [] ≡ []). ap (λ (os : List Entry). lack_in (line_count caches) os (role_of e)) none;
+      needed = λ (none : get_or beside.opened b [] ≡ []). ap (λ (os : List Entry). lack_in (line_count caches) os (role_of e)) none;
     }
 
 pub stores-leave : StoresLeaveBy

@@ -5,7 +5,7 @@ use Rattle.spur_flat.specs.declared.flat.Flat.{Flat}
 use Rattle.spur_flat.specs.declared.entry.Entry.{Entry}
 use Rattle.spur_flat.specs.declared.entry.Entry.TheVariants as entry
 use Rattle.spur_flat.specs.Laws.{address_of}
-use Rattle.spur_flat.specs.Needed.{open_on}
+use Rattle.spur_flat.specs.State.{beside_on}
 use Rattle.spur_flat.proofs.UntoldFacts.{untold-where-told}
 use Rattle.spur_addr.specs.Address.{block_start_of}
 use Rattle.spur_bus.specs.Calls.{tags_of}
@@ -31,10 +31,10 @@ moved_bus b g (plan.WriteBack at) e h = subst (λ (x : Entry). IsOfBus x) (some_
 moved_bus b g (plan.Fill l n at place) e h = subst (λ (x : Entry). IsOfBus x) (some_entry (entry.Fill b l n (block_start_of at)) e h) tt
 
 pub step-carried : StepIsCarried
-step-carried rest before after old new b g p opened e s h needed =
+step-carried rest before after old new b g p beside e s h needed =
     let F : Flat = flat_of rest before old in
     let has : HasTablesOf F F.words = has_own F in
-    bus-carried rest before after old new opened e (moved_bus b g p e h)
+    bus-carried rest before after old new beside e (moved_bus b g p e h)
     (record { logical = s.logical; lines = s.lines; tags = s.tags F has ∙ ap (tags_walked F (tags_of before)) h })
     (sym (ap (walked_refusal F (tags_of before)) h) ∙ s.tagged F has) needed
 
@@ -43,6 +43,6 @@ one_all e small zero d less = small
 one_all e small (suc k) d less = absurd (omega arith)
 
 pub step-carried-untold : StepIsCarriedUntold
-step-carried-untold rest before after old new b g p opened e s h needed valid small =
-    untold-where-told (state_of rest before old opened) (state_of rest after new (open_on opened e)) (e ∷ []) valid (one_all e small)
-    (step-carried rest before after old new b g p opened e s h needed)
+step-carried-untold rest before after old new b g p beside e s h needed valid small =
+    untold-where-told (state_of rest before old beside) (state_of rest after new (beside_on beside e)) (e ∷ []) valid (one_all e small)
+    (step-carried rest before after old new b g p beside e s h needed)

@@ -18,9 +18,9 @@ use Rattle.spur_flat.specs.declared.entry.Entry.TheVariants as entry
 use Rattle.spur_flat.specs.declared.entry.Layer.TheVariants.{UserBlock}
 use Rattle.spur_flat.specs.Blocks.{access_blocks, board_of, entry_block, pager_blocks}
 use Rattle.spur_flat.specs.History.{IsAllowed}
-use Rattle.spur_flat.specs.Needed.{is_modest, is_of_use, lack_of, open_on}
+use Rattle.spur_flat.specs.Needed.{is_modest, is_of_use, lack_of}
 use Rattle.spur_flat.specs.Laws.{address_of}
-use Rattle.spur_flat.specs.State.{IsCarried}
+use Rattle.spur_flat.specs.State.{Beside, IsCarried, beside_on}
 use Rattle.spur_flat.specs.Pager.{word_of}
 use Rattle.spur_flat.specs.Table.{data_word}
 use Rattle.spur_snoop.specs.Protocol.{is_exclusive}
@@ -198,15 +198,17 @@ LikeHasTables = (rest F : Flat) (caches : List (List (Option Line))) (memory : L
 -- The entry of a step is carried, from the state that stands before the step to the one that stands after it, where the
 -- open entries need it. So it is where the swap does not tell its pages, from a valid state.
 abbrev pub StepIsCarried : Type 0
-StepIsCarried = (rest : Flat) (before after : List (List (Option Line))) (old new : List ℕ) (b g : ℕ) (step : Plan) (opened : List (List Entry)) (e : Entry)
-    → Steps before old b g step after new → answer_of b g step ≡ walked.Moved e → lack_of (line_count before) opened e ≡ None
-    → IsCarried (state_of rest before old opened) (state_of rest after new (open_on opened e)) (e ∷ [])
+StepIsCarried = (rest : Flat) (before after : List (List (Option Line))) (old new : List ℕ) (b g : ℕ) (step : Plan)
+    (beside : Beside) (e : Entry) → Steps before old b g step after new → answer_of b g step ≡ walked.Moved e
+    → lack_of (line_count before) beside.opened e ≡ None
+    → IsCarried (state_of rest before old beside) (state_of rest after new (beside_on beside e)) (e ∷ [])
 
 abbrev pub StepIsCarriedUntold : Type 0
-StepIsCarriedUntold = (rest : Flat) (before after : List (List (Option Line))) (old new : List ℕ) (b g : ℕ) (step : Plan) (opened : List (List Entry)) (e : Entry)
-    → Steps before old b g step after new → answer_of b g step ≡ walked.Moved e → lack_of (line_count before) opened e ≡ None
+StepIsCarriedUntold = (rest : Flat) (before after : List (List (Option Line))) (old new : List ℕ) (b g : ℕ) (step : Plan)
+    (beside : Beside) (e : Entry) → Steps before old b g step after new → answer_of b g step ≡ walked.Moved e
+    → lack_of (line_count before) beside.opened e ≡ None
     → IsValidFlat (flat_of rest before old) → address_of e < 2 ^ 38
-    → IsCarriedUntold (state_of rest before old opened) (state_of rest after new (open_on opened e)) (e ∷ [])
+    → IsCarriedUntold (state_of rest before old beside) (state_of rest after new (beside_on beside e)) (e ∷ [])
 
 -- Empty caches and a memory with the words of a valid flat state: the walk may begin.
 pub record CanBegin (caches : List (List (Option Line))) (memory : List ℕ) : Type 0 where

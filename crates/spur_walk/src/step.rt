@@ -96,7 +96,8 @@ fn read<T: HasCache>(
     ensures serves { AgreesWithMemory (caches T.lens boards.new) phys.now }
     ensures logical { logical_of T.lens boards.new phys.now ≡ logical_of T.lens boards.old phys.now }
     ensures lines { line_count (caches T.lens boards.new) ≡ line_count (caches T.lens boards.old) }
-    ensures tags { MovesTagsAs (caches T.lens boards.old) (caches T.lens boards.new) result layer need (block_start_of at) place }
+    ensures tags { MovesTagsAs (caches T.lens boards.old) (caches T.lens boards.new)
+        result layer need (block_start_of at) place }
 {
     match need {
         Need::Read => read_shared(boards, phys, b, at, layer, place),

@@ -60,7 +60,8 @@ pub fn advance_entry<T: HasCache>(
     requires user { page < table_start }
     requires walk { MayWalk (caches T.lens boards.old) phys.old }
     requires root { is_valid (root_at (logical_flat (caches T.lens boards.old) phys.old) page) ≡ true }
-    ensures answer { result ≡ answer_of b (entry_address_of page) (page_plan (caches T.lens boards.old) phys.old b page) }
+    ensures answer { result
+        ≡ answer_of b (entry_address_of page) (page_plan (caches T.lens boards.old) phys.old b page) }
     ensures lens { OnlyLines T.lens boards.old boards.new }
     ensures boards_stay { HasNoEntry result → boards.new ≡ boards.old }
     ensures memory_stays { HasNoEntry result → phys.new ≡ phys.old }
