@@ -31,7 +31,8 @@ fn begun(
     first: &Lexeme<'_>,
     line: &mut Cursor<'_>,
 ) -> Result<(Statement, Sort), Misfit>
-    ensures { result ≡ begun_with (immediate_of (map placed_of labels.now) context) context (token_in first.now.token) first.now.left line.old }
+    ensures { result ≡ begun_with (immediate_of (map placed_of labels.now) context) context
+        (token_in first.now.token) first.now.left line.old }
 {
     match head::sort(first.token) {
         Err(kind) => Err(first.misfit(kind)),

@@ -36,7 +36,8 @@ fn note<'a>(
     context: Context,
     name: Option<&'a [u8]>,
 ) -> Result<(), AllocError>
-    ensures { OnOk result (map placed_of labels.new.items ≡ map placed_of labels.old.items ++ onto_labels context (option_copied name.entry) []) }
+    ensures { OnOk result (map placed_of labels.new.items
+        ≡ map placed_of labels.old.items ++ onto_labels context (option_copied name.entry) []) }
 {
     if let Some(name) = name {
         labels.push(Label {

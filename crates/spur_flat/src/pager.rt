@@ -114,7 +114,8 @@ impl Flat {
     fn judge(&self, at: GlobalAddr, entry: Pte, passes: bool, number: u64) -> Result<(), Illegal>
         requires valid { IsValidFlat self.now }
         requires entry { entry ≡ word_of self.now at }
-        ensures exact { result ≡ result_of (unless Clause.Pager (is_declared self.now at) 1 0 (unless Clause.Pager passes number entry None)) }
+        ensures exact { result ≡ result_of (unless Clause.Pager (is_declared self.now at) 1 0
+            (unless Clause.Pager passes number entry None)) }
         ensures declared { OnOk result (is_declared self.now at ≡ true) }
         ensures passes { OnOk result (passes ≡ true) }
         ensures small { at < 2 ^ 38 }

@@ -29,7 +29,8 @@ impl Model for FrameTable {
 
     ghost view = { λ a. record { first = a.first; held = a.held.items; hand = a.hand; leaving = a.leaving } };
 
-    ghost invariant = { λ a. AreFrames (record { first = a.first; held = a.held.items; hand = a.hand; leaving = a.leaving }) × (a.free ≡ free_count a.held.items) };
+    ghost invariant = { λ a. AreFrames (record { first = a.first; held = a.held.items; hand = a.hand; leaving = a.leaving })
+        × (a.free ≡ free_count a.held.items) };
 }
 
 impl FrameTable {

@@ -63,7 +63,8 @@ pub(crate) fn tick<T: HasCache>(
     requires may { MayTick b page (hold_by T.lens boards.old phys.old) }
     requires room { 5 ≤ history.old.room }
     ensures change { result ≡ ticked (hold_by T.lens boards.old phys.old) page }
-    ensures changes { Ticks b page (hold_by T.lens boards.old phys.old) history.old (hold_by T.lens boards.new phys.new) history.new }
+    ensures changes { Ticks b page (hold_by T.lens boards.old phys.old) history.old
+        (hold_by T.lens boards.new phys.new) history.new }
     ensures lens { OnlyLines T.lens boards.old boards.new }
 {
     fetch(boards, phys, history, b, page);
