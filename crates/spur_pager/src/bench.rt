@@ -1,6 +1,6 @@
 //! The machine of the tests: three boards with empty caches, three data frames, and four declared pages.
 
-ghost use Rattle.std.specs.Prelude.{◌≡◌, ◌<◌, ◌≤◌, IfOk, IfSome, IsTrue, None, Some, length, replicate, true};
+ghost use Rattle.std.specs.Prelude.{◌≡◌, ◌<◌, ◌≤◌, IfOk, IfSome, IsTrue, None, Some, length, map, replicate, true};
 ghost use Rattle.spur_cache.specs.Lens.{caches};
 ghost use Rattle.spur_addr.specs.Address.{table_start};
 ghost use Rattle.spur_addr.specs.PageEntry.{is_readable};
