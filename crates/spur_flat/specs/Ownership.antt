@@ -14,7 +14,7 @@ pub record HasOneOwner (T : List (List (Option Tag))) (block : ℕ) : Type 0 whe
   pub exclusive : (i j : ℕ)
       → is_exclusive (block_state (tag_at T i block)) ≡ true → is_alive (block_state (tag_at T j block)) ≡ true → i ≡ j
 
--- so is each block after any history from no tags: what an entry leaves keeps it, whatever the entry asks for
+-- so is each block after any history from no tags: each entry's change keeps it, whether the tags allow the entry or not
 abbrev pub EachHasOneOwner : Type 0
 EachHasOneOwner = (F : Flat) (boards lines : ℕ) (history : List Entry) (block : ℕ)
     → HasOneOwner (tags_after F (no_tags boards lines) history) block

@@ -36,7 +36,8 @@ use spur_swap::Backing;
 /// that was to go out: its lines are flushed, and it is still leaving and dirty in its frame, so that a later call tries
 /// again. `SwapRead` comes for Missing alone, where the swap object failed to read the missing page: it is still on
 /// swap, and a frame is free. Each comes only where the swap object's count of faults rose in this call. The swap object
-/// is called before the steps towards the entry, so nothing was fetched in vain.
+/// is called before the steps towards the entry, so nothing was fetched in vain. It is called to read a page for Missing
+/// alone, and to write one exactly where the page that goes out is dirty.
 ///
 /// The cost is that of the lines of the page that goes out, at most 128 a board, of the blocks of the entries that are
 /// changed, of the frames that the clock passes or that come before the least free one, and of one page of words for
