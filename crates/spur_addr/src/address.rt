@@ -3,13 +3,11 @@
 ghost use Rattle.std.specs.Prelude.{◌≡◌, ◌+◌, ◌<◌, ◌^◌, ◌↔◌, IfSome, IsSome};
 ghost use Rattle.spur_addr.specs.Address.{block_of, block_start_of, entry_address_of, global_of, page_of, root_place_of, root_start, word_in_block_of};
 
+use crate::sizes::TABLE_START;
 use std::marker::Model;
 
 /// One past the last global virtual address.
 const END: u64 = 1 << 38;
-
-/// The first address of segment 255, in which the page table stands.
-const TABLE_START: u64 = 255 << 30;
 
 /// The part of a process address that stays as it is: its place within the segment.
 const WITHIN_SEGMENT: u32 = 0x3fff_ffff;

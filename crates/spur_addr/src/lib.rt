@@ -12,4 +12,4 @@ mod sizes;
 
 pub use address::{GlobalAddr, global, pte_of, root_place};
 pub use page_entry::{Protection, Pte, PteFault};
-pub use sizes::{BLOCK_WORDS, PAGE_BLOCKS, PAGE_WORDS, ROOT_FRAMES};
+pub use sizes::{BLOCK_WORDS, PAGE_BLOCKS, PAGE_WORDS, ROOT_FRAMES, TABLE_START};

@@ -213,6 +213,15 @@ impl Pte {
         }
     }
 
+    /// The entry of the same page where it has just come into a frame: it keeps the protection alone. The frame's
+    /// number is below 2^20.
+    pub fn brought_in(self, frame: u32) -> Pte
+        requires { frame < 2 ^ 20 }
+        ensures { result ≡ resident_of frame (protection_of self) }
+    {
+        Pte::resident(frame, self.protection())
+    }
+
     /// The entry of a page that is in a swap slot and in no frame. The slot's number is below 2^20.
     pub fn swapped(slot: u32, protection: Protection) -> Pte
         requires { slot < 2 ^ 20 }

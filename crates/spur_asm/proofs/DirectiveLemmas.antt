@@ -7,7 +7,7 @@ use Rattle.spur_asm.specs.Token.{Name, Number}
 use Rattle.spur_asm.specs.Item.{protection_text, natural, IsPageItem, IsWordItem, IsSegItem}
 use Rattle.spur_asm.specs.Section.{low_word}
 use Rattle.spur_asm.specs.Lexeme.{Lexeme}
-use Rattle.spur_asm.specs.Statements.{page_at, word_text_at, seg_at}
+use Rattle.spur_asm.specs.Statements.{page_text_at, word_text_at, seg_at}
 use Rattle.spur_asm.proofs.Levels.{AreTokens}
 use Rattle.spur_asm.proofs.FieldLemmas.{end_read, end_is, protection_field, protection_then, number_field, number_then, natural_field, natural_then, offset_field, offset_then}
 
@@ -25,16 +25,16 @@ pub record SpellPage (l0 : List Lexeme) (page : PageText) : Type 0 where
   pub is : page_text segment place prot ≡ page
 
 pub page_read : (l0 : List Lexeme) (segment place : ℕ) (prot : Protection) → IsPageItem segment place
-    → AreTokens l0 (natural segment ∷ natural place ∷ Name (protection_text prot) ∷ []) → page_at l0 ≡ Ok (page_text segment place prot)
-unfolding page_at
+    → AreTokens l0 (natural segment ∷ natural place ∷ Name (protection_text prot) ∷ []) → page_text_at l0 ≡ Ok (page_text segment place prot)
+unfolding page_text_at
 page_read l0 segment place prot range t0 =
     natural_field 255 segment _ l0 _ _ range.segment_fits t0 (λ l1 t1.
     natural_field 262143 place _ l1 _ _ range.place_fits t1 (λ l2 t2.
     protection_field prot _ l2 _ _ t2 (λ l3 t3.
     end_read (page_text segment place prot) l3 t3)))
 
-pub page_is : (l0 : List Lexeme) (page : PageText) → page_at l0 ≡ Ok page → SpellPage l0 page
-unfolding page_at
+pub page_is : (l0 : List Lexeme) (page : PageText) → page_text_at l0 ≡ Ok page → SpellPage l0 page
+unfolding page_text_at
 page_is l0 page e =
     let P : Type 0 = SpellPage l0 page in
     natural_then 255 l0 _ _ e P (λ segment l1 segment_fits t0 e1.

@@ -5,7 +5,7 @@ use Rattle.spur_object.specs.declared.unit.PageText.{PageText}
 use Rattle.spur_object.specs.declared.unit.WordText.{WordText}
 use Rattle.spur_asm.specs.Item.{Item, Label, Page, Word, Board, Seg, Code, IsItem, item_tokens}
 use Rattle.spur_asm.specs.Lexeme.{Lexeme}
-use Rattle.spur_asm.specs.Statements.{page_at, word_text_at, seg_at, instr_at, fields_at}
+use Rattle.spur_asm.specs.Statements.{page_text_at, word_text_at, seg_at, operation_at, fields_at}
 use Rattle.spur_asm.specs.declared.statement.Operation.{Operation}
 use Rattle.spur_asm.specs.declared.statement.Sort.{Sort}
 use Rattle.spur_asm.specs.declared.statement.Sort.TheVariants as sorts
@@ -46,7 +46,7 @@ item_read immediate sort l0 s (Code instr label) of range leads t =
 
 -- ---- what is read is spelled
 
-page_has : (immediate : List ℕ → Option ℤ) (l0 : List Lexeme) (page : PageText) → page_at l0 ≡ Ok page → HasFields immediate sorts.Page l0 (statements.Page page)
+page_has : (immediate : List ℕ → Option ℤ) (l0 : List Lexeme) (page : PageText) → page_text_at l0 ≡ Ok page → HasFields immediate sorts.Page l0 (statements.Page page)
 page_has immediate l0 page e =
     let s = page_is l0 page e in
     subst (λ (p : PageText). HasFields immediate sorts.Page l0 (statements.Page p)) s.is
@@ -64,7 +64,7 @@ seg_has immediate l0 segs e =
     subst (λ (x : List ℕ). HasFields immediate sorts.Seg l0 (statements.Seg x)) s.is
     (record { item = Seg s.first s.second s.third s.fourth; has_sort = refl; says = refl; in_range = s.in_range; leads = tt; tokens = s.tokens })
 
-code_has : (immediate : List ℕ → Option ℤ) → AllFit immediate → (operation : Operation) (l0 : List Lexeme) (instr : Instr) → instr_at immediate operation l0 ≡ Ok instr
+code_has : (immediate : List ℕ → Option ℤ) → AllFit immediate → (operation : Operation) (l0 : List Lexeme) (instr : Instr) → operation_at immediate operation l0 ≡ Ok instr
     → HasFields immediate (sorts.Code operation) l0 (statements.Code instr)
 code_has immediate fit operation l0 instr e =
     let s = instr_is immediate fit operation l0 instr e in
@@ -72,14 +72,14 @@ code_has immediate fit operation l0 instr e =
     (record { item = Code instr s.label; has_sort = refl; says = refl; in_range = s.in_range; leads = s.goes; tokens = s.tokens })
 
 fields_are : (immediate : List ℕ → Option ℤ) → AllFit immediate → (sort : Sort) (l0 : List Lexeme) (s : Statement) → fields_at immediate sort l0 ≡ Ok s → HasFields immediate sort l0 s
-fields_are immediate fit sorts.Page l0 s e = made_then (page_at l0) (λ (p : PageText). statements.Page p) s e (HasFields immediate sorts.Page l0) (page_has immediate l0)
+fields_are immediate fit sorts.Page l0 s e = made_then (page_text_at l0) (λ (p : PageText). statements.Page p) s e (HasFields immediate sorts.Page l0) (page_has immediate l0)
 fields_are immediate fit sorts.Word l0 s e = made_then (word_text_at l0) (λ (w : WordText). statements.Word w) s e (HasFields immediate sorts.Word l0) (word_has immediate l0)
 fields_are immediate fit sorts.Board l0 s e =
     let end = end_is statements.Board s l0 e in
     subst (HasFields immediate sorts.Board l0) end.1 (record { item = Board; has_sort = refl; says = refl; in_range = tt; leads = tt; tokens = end.0 })
 fields_are immediate fit sorts.Seg l0 s e = made_then (seg_at l0) (λ (x : List ℕ). statements.Seg x) s e (HasFields immediate sorts.Seg l0) (seg_has immediate l0)
 fields_are immediate fit (sorts.Code operation) l0 s e =
-    made_then (instr_at immediate operation l0) (λ (i : Instr). statements.Code i) s e (HasFields immediate (sorts.Code operation) l0) (code_has immediate fit operation l0)
+    made_then (operation_at immediate operation l0) (λ (i : Instr). statements.Code i) s e (HasFields immediate (sorts.Code operation) l0) (code_has immediate fit operation l0)
 
 -- ---- the law
 

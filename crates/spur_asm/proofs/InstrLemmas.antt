@@ -7,7 +7,7 @@ use Rattle.spur_asm.specs.Item.{instr_tokens}
 use Rattle.spur_asm.specs.Section.{jump_of}
 use Rattle.spur_asm.specs.Lexeme.{Lexeme}
 use Rattle.spur_asm.specs.Fields.{end_at}
-use Rattle.spur_asm.specs.Statements.{one_at, li_at, lih_at, addi_at, three_at, access_at, branch_at, jmp_at, call_at, instr_at}
+use Rattle.spur_asm.specs.Statements.{one_at, li_at, lih_at, addi_at, three_at, access_at, branch_at, jmp_at, call_at, operation_at}
 use Rattle.spur_asm.specs.declared.statement.Operation.{Operation}
 use Rattle.spur_asm.specs.declared.statement.Operation.TheVariants as operations
 use Rattle.spur_asm.proofs.Levels.{AreTokens, AllFit, operation_of}
@@ -22,7 +22,7 @@ Goes immediate instr label = IfSome (jump_of instr) (λ i. immediate label ≡ S
 -- ---- what is spelled is read
 
 pub instr_read : (immediate : List ℕ → Option ℤ) (l0 : List Lexeme) (instr : Instr) (label : List ℕ) → IsInstr instr → Goes immediate instr label
-    → AreTokens l0 (drop 1 (instr_tokens instr label)) → instr_at immediate (operation_of instr) l0 ≡ Ok instr
+    → AreTokens l0 (drop 1 (instr_tokens instr label)) → operation_at immediate (operation_of instr) l0 ≡ Ok instr
 instr_read immediate l0 Halt label range goes t = end_read Halt l0 t
 instr_read immediate l0 Nop label range goes t = end_read Nop l0 t
 instr_read immediate l0 (Li a i) label range goes t = rw (li_read l0 (a, i) (range, t)) refl
@@ -76,7 +76,7 @@ bare immediate operation l0 a b has_operation stays range no_tokens e =
     let end = end_is a b l0 e in
     subst (SpellInstr immediate operation l0) end.1 (plain immediate operation l0 a has_operation stays (range, rw no_tokens end.0))
 
-pub instr_is : (immediate : List ℕ → Option ℤ) → AllFit immediate → (operation : Operation) (l0 : List Lexeme) (instr : Instr) → instr_at immediate operation l0 ≡ Ok instr → SpellInstr immediate operation l0 instr
+pub instr_is : (immediate : List ℕ → Option ℤ) → AllFit immediate → (operation : Operation) (l0 : List Lexeme) (instr : Instr) → operation_at immediate operation l0 ≡ Ok instr → SpellInstr immediate operation l0 instr
 instr_is immediate fit operations.Halt l0 j e = bare immediate operations.Halt l0 Halt j refl refl tt refl e
 instr_is immediate fit operations.Nop l0 j e = bare immediate operations.Nop l0 Nop j refl refl tt refl e
 instr_is immediate fit operations.Li l0 j e = made_then (li_at l0) (λ (f : ℕ × ℤ). Li f.0 f.1) j e (SpellInstr immediate operations.Li l0) (λ f r.

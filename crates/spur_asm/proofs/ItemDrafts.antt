@@ -6,15 +6,15 @@ use Rattle.std.proofs.lemmas.List.{append_assoc, append-nil}
 use Rattle.std.proofs.lemmas.List.Sums.{fold-append}
 use Rattle.spur_object.specs.declared.unit.BoardText.{BoardText}
 use Rattle.spur_asm.specs.Item.{Item, Label, Page, Word, Board, Seg, Code}
-use Rattle.spur_asm.specs.Section.{page_in, word_in, segs_in, code_in, low_word}
+use Rattle.spur_asm.specs.Section.{page_text_in, word_text_in, segs_in, code_in, low_word}
 use Rattle.spur_asm.specs.Says.{IsAnywhere, sections}
-use Rattle.spur_asm.specs.Draft.{fresh_board, all_boards, with_line}
+use Rattle.spur_asm.specs.Draft.{fresh_board, all_boards, with_line_statement}
 use Rattle.spur_asm.specs.declared.draft.Draft.{Draft}
 use Rattle.spur_asm.proofs.Levels.{statement_of}
 use Rattle.spur_asm.proofs.ItemRuns.{HasNoBoard}
 
 abbrev pub with_item : Draft → Item → Draft
-with_item d item = with_line d (statement_of item)
+with_item d item = with_line_statement d (statement_of item)
 
 abbrev pub drafted : Draft → List Item → Draft
 drafted d items = fold with_item d items
@@ -27,16 +27,16 @@ drafted_append d items others = fold-append with_item d items others
 on : {A : Type 0} (xs : List A) (x : A) (ys : List A) → (xs ++ (x ∷ [])) ++ ys ≡ xs ++ (x ∷ ys)
 on xs x ys = append_assoc xs (x ∷ []) ys
 
-pub pages_drafted : (d : Draft) (items : List Item) → (drafted d items).pages ≡ d.pages ++ filter_map page_in items
+pub pages_drafted : (d : Draft) (items : List Item) → (drafted d items).pages ≡ d.pages ++ filter_map page_text_in items
 pages_drafted d [] = sym (append-nil d.pages)
 pages_drafted d (Page segment place prot ∷ items) =
-    pages_drafted (with_item d (Page segment place prot)) items ∙ on d.pages (record { page = segment * 2 ^ 18 + place; prot = prot }) (filter_map page_in items)
+    pages_drafted (with_item d (Page segment place prot)) items ∙ on d.pages (record { page = segment * 2 ^ 18 + place; prot = prot }) (filter_map page_text_in items)
 pages_drafted d (item ∷ items) = pages_drafted (with_item d item) items
 
-pub words_drafted : (d : Draft) (items : List Item) → (drafted d items).words ≡ d.words ++ filter_map word_in items
+pub words_drafted : (d : Draft) (items : List Item) → (drafted d items).words ≡ d.words ++ filter_map word_text_in items
 words_drafted d [] = sym (append-nil d.words)
 words_drafted d (Word segment offset value ∷ items) =
-    words_drafted (with_item d (Word segment offset value)) items ∙ on d.words (record { at = segment * 2 ^ 30 + offset; value = low_word value }) (filter_map word_in items)
+    words_drafted (with_item d (Word segment offset value)) items ∙ on d.words (record { at = segment * 2 ^ 30 + offset; value = low_word value }) (filter_map word_text_in items)
 words_drafted d (item ∷ items) = words_drafted (with_item d item) items
 
 -- ---- the items before all boards

@@ -3,9 +3,9 @@ use Rattle.std.proofs.Common.{◌≡◌, ℕ, List, [], ◌∷◌, ◌++◌, Opt
 use Rattle.std.specs.List.{AllZip, filter_map, flat_map, fold}
 use Rattle.std.specs.Option.{option_to_list}
 use Rattle.spur_asm.specs.Item.{Item, Label, Page, Word, Board, Seg, Code, IsStatement, IsLine, SpellsLine}
-use Rattle.spur_asm.specs.Context.{Placed, next_of, labels_from, onto_labels}
-use Rattle.spur_asm.specs.Line.{line_at}
-use Rattle.spur_asm.specs.Draft.{with_line, with_statement}
+use Rattle.spur_asm.specs.Context.{Placed, next_context, labels_from, onto_labels}
+use Rattle.spur_asm.specs.Line.{statement_of_line}
+use Rattle.spur_asm.specs.Draft.{with_line_statement, with_statement}
 use Rattle.spur_asm.specs.Fields.{◌>>=◌}
 use Rattle.spur_asm.specs.Text.{draft_at_end, draft_from}
 use Rattle.spur_asm.specs.declared.draft.Draft.{Draft}
@@ -65,11 +65,11 @@ by_statements d (Board ∷ items) = by_statements (drafted d (Board ∷ [])) ite
 by_statements d (Seg first second third fourth ∷ items) = by_statements (drafted d (Seg first second third fourth ∷ [])) items
 by_statements d (Code instr label ∷ items) = by_statements (drafted d (Code instr label ∷ [])) items
 
-by_line : (d : Draft) (s : Option Statement) → fold with_statement d (option_to_list s) ≡ with_line d s
+by_line : (d : Draft) (s : Option Statement) → fold with_statement d (option_to_list s) ≡ with_line_statement d s
 by_line d None = refl
 by_line d (Some s) = refl
 
-line_drafted : (d : Draft) (items : List Item) (s : Option Statement) → filter_map statement_of items ≡ option_to_list s → drafted d items ≡ with_line d s
+line_drafted : (d : Draft) (items : List Item) (s : Option Statement) → filter_map statement_of items ≡ option_to_list s → drafted d items ≡ with_line_statement d s
 line_drafted d items s says = by_statements d items ∙ ap (λ (ss : List Statement). fold with_statement d ss) says ∙ by_line d s
 
 -- ---- items that stand, one line after the other
@@ -90,7 +90,7 @@ module _ (law : LineLaw) (next : NextLaw) (label : LabelLaw) where
   labels_are c [] (one ∷ items) h = absurd h
   labels_are c (line ∷ lines) [] h = absurd h
   labels_are c (line ∷ lines) (one ∷ items) h =
-      let rest : List Placed = labels_from (next_of c line) lines in
+      let rest : List Placed = labels_from (next_context c line) lines in
       ap (λ (o : Option (List ℕ)). onto_labels c o rest) (label line one h.0)
       ∙ onto_more c (label_of_line one) rest
       ∙ ap (λ (ls : List Placed). ls ++ rest) (sym (placed_line c one h.0.is_line))
@@ -100,9 +100,9 @@ module _ (law : LineLaw) (next : NextLaw) (label : LabelLaw) where
 
   -- ---- lines that are spelled are read
 
-  draft_read : (all : List Placed) (c : Context) (d : Draft) (line : List ℕ) (lines : List (List ℕ)) (s : Option Statement) → line_at all c line ≡ Ok s
-      → draft_from all c d (line ∷ lines) ≡ draft_from all (next_of c line) (with_line d s) lines
-  draft_read all c d line lines s read = ap (λ (r : Result (Option Statement) Misfit). r >>= (λ (t : Option Statement). draft_from all (next_of c line) (with_line d t) lines)) read
+  draft_read : (all : List Placed) (c : Context) (d : Draft) (line : List ℕ) (lines : List (List ℕ)) (s : Option Statement) → statement_of_line all c line ≡ Ok s
+      → draft_from all c d (line ∷ lines) ≡ draft_from all (next_context c line) (with_line_statement d s) lines
+  draft_read all c d line lines s read = ap (λ (r : Result (Option Statement) Misfit). r >>= (λ (t : Option Statement). draft_from all (next_context c line) (with_line_statement d t) lines)) read
 
   pub lines_drafted : (all : List Placed) (c : Context) (d : Draft) (lines : List (List ℕ)) (items : List (List Item)) → AllZip SpellsLine lines items → AllStand all c (joined items)
       → draft_from all c d lines ≡ draft_at_end (drafted d (joined items))
@@ -112,9 +112,9 @@ module _ (law : LineLaw) (next : NextLaw) (label : LabelLaw) where
   lines_drafted all c d (line ∷ lines) (one ∷ items) h stand =
       let parts = stand_parts all c one (joined items) stand in
       let has = has_statement one h.0.is_line in
-      let read : line_at all c line ≡ Ok has.statement = (law all c line has.statement).1 (record { items = one; spelled = h.0; stand = parts.0; says = has.is }) in
+      let read : statement_of_line all c line ≡ Ok has.statement = (law all c line has.statement).1 (record { items = one; spelled = h.0; stand = parts.0; says = has.is }) in
       draft_read all c d line lines has.statement read
-      ∙ ap (λ (x : Context). draft_from all x (with_line d has.statement) lines) (next c line one h.0)
+      ∙ ap (λ (x : Context). draft_from all x (with_line_statement d has.statement) lines) (next c line one h.0)
       ∙ ap (λ (e : Draft). draft_from all (behind_items c one) e lines) (sym (line_drafted d one has.statement has.is))
       ∙ lines_drafted all (behind_items c one) (drafted d one) lines items h.1 parts.1
       ∙ ap draft_at_end (sym (drafted_append d one (joined items)))
@@ -138,17 +138,17 @@ module _ (law : LineLaw) (next : NextLaw) (label : LabelLaw) where
 
   spelled_from : (all : List Placed) (c : Context) (d : Draft) (line : List ℕ) (lines : List (List ℕ)) (end : Draft) (r : Result (Option Statement) Misfit)
       → ((x : Context) (e : Draft) → draft_from all x e lines ≡ Ok end → AreSpelled all x e lines end)
-      → line_at all c line ≡ r → (r >>= (λ (t : Option Statement). draft_from all (next_of c line) (with_line d t) lines)) ≡ Ok end → AreSpelled all c d (line ∷ lines) end
+      → statement_of_line all c line ≡ r → (r >>= (λ (t : Option Statement). draft_from all (next_context c line) (with_line_statement d t) lines)) ≡ Ok end → AreSpelled all c d (line ∷ lines) end
   spelled_from all c d line lines end (Err m) on read e = absurd cc
   spelled_from all c d line lines end (Ok s) on read e =
       let says = (law all c line s).0 read in
       let behind : draft_from all (behind_items c says.items) (drafted d says.items) lines ≡ Ok end =
       ap (λ (x : Draft). draft_from all (behind_items c says.items) x lines) (line_drafted d says.items s says.says)
-      ∙ ap (λ (x : Context). draft_from all x (with_line d s) lines) (sym (next c line says.items says.spelled))
+      ∙ ap (λ (x : Context). draft_from all x (with_line_statement d s) lines) (sym (next c line says.items says.spelled))
       ∙ e in
       spelled_more all c d line lines end s says (on (behind_items c says.items) (drafted d says.items) behind)
 
   pub lines_spelled : (all : List Placed) (c : Context) (d : Draft) (lines : List (List ℕ)) (end : Draft) → draft_from all c d lines ≡ Ok end → AreSpelled all c d lines end
   lines_spelled all c d [] end e = record { items = []; spelled = tt; stand = tt; draft = e }
   lines_spelled all c d (line ∷ lines) end e =
-      spelled_from all c d line lines end (line_at all c line) (λ x f g. lines_spelled all x f lines end g) refl e
+      spelled_from all c d line lines end (statement_of_line all c line) (λ x f g. lines_spelled all x f lines end g) refl e

@@ -4,7 +4,7 @@ use Rattle.std.specs.Prelude.{⊤}
 use Rattle.std.proofs.lemmas.List.Sums.{fold-append}
 use Rattle.std.specs.List.{AllByRecursion, filter_map}
 use Rattle.spur_asm.specs.Item.{Item, Page, Word, Board, Seg, Code}
-use Rattle.spur_asm.specs.Section.{page_in, word_in, segs_in, code_in}
+use Rattle.spur_asm.specs.Section.{page_text_in, word_text_in, segs_in, code_in}
 use Rattle.spur_asm.specs.declared.statement.Context.{Context}
 use Rattle.spur_asm.proofs.Levels.{behind_item, behind_items}
 
@@ -55,12 +55,12 @@ HasNoBoard items = AllByRecursion IsNoBoard items
 none_more : (n : ℕ) → n ≡ n + 0
 none_more n = omega arith
 
-pub pages_behind : (c : Context) (items : List Item) → (behind_items c items).pages ≡ c.pages + length (filter_map page_in items)
+pub pages_behind : (c : Context) (items : List Item) → (behind_items c items).pages ≡ c.pages + length (filter_map page_text_in items)
 pages_behind c [] = none_more c.pages
 pages_behind c (Page segment place prot ∷ items) = (let on = pages_behind (behind_item c (Page segment place prot)) items in omega arith)
 pages_behind c (item ∷ items) = pages_behind (behind_item c item) items
 
-pub words_behind : (c : Context) (items : List Item) → (behind_items c items).words ≡ c.words + length (filter_map word_in items)
+pub words_behind : (c : Context) (items : List Item) → (behind_items c items).words ≡ c.words + length (filter_map word_text_in items)
 words_behind c [] = none_more c.words
 words_behind c (Word segment offset value ∷ items) = (let on = words_behind (behind_item c (Word segment offset value)) items in omega arith)
 words_behind c (item ∷ items) = words_behind (behind_item c item) items

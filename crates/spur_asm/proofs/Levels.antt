@@ -10,9 +10,9 @@ use Rattle.spur_asm.specs.Spelling.{SpellsTokens}
 use Rattle.spur_asm.specs.Item.{Item, Label, Page, Word, Board, Seg, Code, IsItem, item_tokens, SpellsLine}
 use Rattle.spur_asm.specs.Section.{low_word, jump_of}
 use Rattle.spur_asm.specs.Lexeme.{Lexeme, lexemes_of}
-use Rattle.spur_asm.specs.Context.{Placed, label_in, label_fault, misplacement, immediate_of, next_of, with_label, with_sort}
+use Rattle.spur_asm.specs.Context.{Placed, leading_label, label_fault, misplacement, immediate_of, next_context, with_label, with_sort}
 use Rattle.spur_asm.specs.Statements.{fields_at}
-use Rattle.spur_asm.specs.Line.{line_at}
+use Rattle.spur_asm.specs.Line.{statement_of_line}
 use Rattle.spur_asm.specs.Laws.{ReadsWhatIsSaid}
 use Rattle.spur_asm.specs.declared.fault.Kind.{Kind}
 use Rattle.spur_asm.specs.declared.statement.Context.{Context}
@@ -155,15 +155,15 @@ pub record LineSays (all : List Placed) (c : Context) (line : List ℕ) (s : Opt
 
 -- a line is read exactly where it is spelled and may stand
 abbrev pub LineLaw : Type 0
-LineLaw = (all : List Placed) (c : Context) (line : List ℕ) (s : Option Statement) → (line_at all c line ≡ Ok s) ↔ LineSays all c line s
+LineLaw = (all : List Placed) (c : Context) (line : List ℕ) (s : Option Statement) → (statement_of_line all c line ≡ Ok s) ↔ LineSays all c line s
 
 -- what stands before the next line
 abbrev pub NextLaw : Type 0
-NextLaw = (c : Context) (line : List ℕ) (items : List Item) → SpellsLine line items → next_of c line ≡ behind_items c items
+NextLaw = (c : Context) (line : List ℕ) (items : List Item) → SpellsLine line items → next_context c line ≡ behind_items c items
 
 -- the label of a line
 abbrev pub LabelLaw : Type 0
-LabelLaw = (line : List ℕ) (items : List Item) → SpellsLine line items → label_in (lexemes_of line) ≡ label_of_line items
+LabelLaw = (line : List ℕ) (items : List Item) → SpellsLine line items → leading_label (lexemes_of line) ≡ label_of_line items
 
 -- ---- from level to level
 

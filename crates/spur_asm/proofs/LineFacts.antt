@@ -6,11 +6,11 @@ use Rattle.std.proofs.lemmas.Grind.{common_steps}
 use Rattle.std.proofs.lemmas.List.{append_assoc, length-drop}
 use Rattle.spur_asm.specs.Bytes.{is_feed}
 use Rattle.spur_asm.specs.Lexeme.{lexemes_of}
-use Rattle.spur_asm.specs.Context.{Placed, IsWithin, label_in, labels_from, next_of, onto_labels}
+use Rattle.spur_asm.specs.Context.{Placed, IsWithin, leading_label, labels_from, next_context, onto_labels}
 use Rattle.spur_asm.specs.Fields.{◌>>=◌}
-use Rattle.spur_asm.specs.Line.{line_at}
+use Rattle.spur_asm.specs.Line.{statement_of_line}
 use Rattle.spur_asm.specs.Step.{step_at}
-use Rattle.spur_asm.specs.Draft.{with_line}
+use Rattle.spur_asm.specs.Draft.{with_line_statement}
 use Rattle.spur_asm.specs.Text.{lines_of, draft_from, GivesDraft}
 use Rattle.spur_asm.specs.declared.draft.Draft.{Draft}
 use Rattle.spur_asm.specs.declared.fault.AsmFault.{AsmFault}
@@ -48,39 +48,39 @@ onto_more c None front rest = append_assoc front [] rest
 onto_more c (Some w) front rest = append_assoc front (record { board = c.boards; name = w; place = c.codes } ∷ []) rest
 
 -- one more line's label
-pub labels_from-line : (c next : Context) (front more whole : List Placed) (text : List ℕ) → (length text == 0) ≡ false → next ≡ next_of c (before_first is_feed text)
-    → more ≡ front ++ onto_labels c (label_in (lexemes_of (before_first is_feed text))) [] → front ++ labels_from c (lines_of text) ≡ whole
+pub labels_from-line : (c next : Context) (front more whole : List Placed) (text : List ℕ) → (length text == 0) ≡ false → next ≡ next_context c (before_first is_feed text)
+    → more ≡ front ++ onto_labels c (leading_label (lexemes_of (before_first is_feed text))) [] → front ++ labels_from c (lines_of text) ≡ whole
     → more ++ labels_from next (lines_of (after_first is_feed text)) ≡ whole
 labels_from-line c next front more whole text some is_next is_more so_far =
     let line : List ℕ = before_first is_feed text in
-    let rest : List Placed = labels_from (next_of c line) (lines_of (after_first is_feed text)) in
+    let rest : List Placed = labels_from (next_context c line) (lines_of (after_first is_feed text)) in
     ap (λ (n : Context). more ++ labels_from n (lines_of (after_first is_feed text))) is_next
     ∙ ap (λ (m : List Placed). m ++ rest) is_more
-    ∙ onto_more c (label_in (lexemes_of line)) front rest
+    ∙ onto_more c (leading_label (lexemes_of line)) front rest
     ∙ sym (ap (λ (ls : List (List ℕ)). front ++ labels_from c ls) (lines_of-first text some))
     ∙ so_far
 
 -- ---- the draft of the lines from one on whose statement was read, or had a fault
 
-draft_from-Ok : (all : List Placed) (read : Result (Option Statement) Misfit) (next after : Context) (d : Draft) (lines : List (List ℕ)) (s : Option Statement) → ◌>>=◌ {B = Option Statement × Context} read (λ t. Ok (t, after)) ≡ Ok (s, next) → read >>= (λ t. draft_from all after (with_line d t) lines) ≡ draft_from all next (with_line d s) lines
+draft_from-Ok : (all : List Placed) (read : Result (Option Statement) Misfit) (next after : Context) (d : Draft) (lines : List (List ℕ)) (s : Option Statement) → ◌>>=◌ {B = Option Statement × Context} read (λ t. Ok (t, after)) ≡ Ok (s, next) → read >>= (λ t. draft_from all after (with_line_statement d t) lines) ≡ draft_from all next (with_line_statement d s) lines
 draft_from-Ok all (Ok t) next after d lines s e =
     let here : Option Statement × Context = (t, after) in
     let there : Option Statement × Context = (s, next) in
     let same : here ≡ there = cc in
-    ap (λ p. draft_from all p.1 (with_line d p.0) lines) same
+    ap (λ p. draft_from all p.1 (with_line_statement d p.0) lines) same
 draft_from-Ok all (Err m) next after d lines s e = cc
 
-draft_from-Err : (all : List Placed) (read : Result (Option Statement) Misfit) (after : Context) (d : Draft) (lines : List (List ℕ)) (m : Misfit) → ◌>>=◌ {B = Option Statement × Context} read (λ t. Ok (t, after)) ≡ Err m → read >>= (λ t. draft_from all after (with_line d t) lines) ≡ Err m
+draft_from-Err : (all : List Placed) (read : Result (Option Statement) Misfit) (after : Context) (d : Draft) (lines : List (List ℕ)) (m : Misfit) → ◌>>=◌ {B = Option Statement × Context} read (λ t. Ok (t, after)) ≡ Err m → read >>= (λ t. draft_from all after (with_line_statement d t) lines) ≡ Err m
 draft_from-Err all (Ok t) after d lines m e = cc
 draft_from-Err all (Err n) after d lines m e = cc
 
-pub draft_from-line : (all : List Placed) (c next : Context) (d : Draft) (text : List ℕ) (s : Option Statement) → (length text == 0) ≡ false → step_at all c (before_first is_feed text) ≡ Ok (s, next) → draft_from all c d (lines_of text) ≡ draft_from all next (with_line d s) (lines_of (after_first is_feed text))
+pub draft_from-line : (all : List Placed) (c next : Context) (d : Draft) (text : List ℕ) (s : Option Statement) → (length text == 0) ≡ false → step_at all c (before_first is_feed text) ≡ Ok (s, next) → draft_from all c d (lines_of text) ≡ draft_from all next (with_line_statement d s) (lines_of (after_first is_feed text))
 draft_from-line all c next d text s some e =
-    rw (lines_of-first text some) (draft_from-Ok all (line_at all c (before_first is_feed text)) next (next_of c (before_first is_feed text)) d (lines_of (after_first is_feed text)) s e)
+    rw (lines_of-first text some) (draft_from-Ok all (statement_of_line all c (before_first is_feed text)) next (next_context c (before_first is_feed text)) d (lines_of (after_first is_feed text)) s e)
 
 pub draft_from-fault : (all : List Placed) (c : Context) (d : Draft) (text : List ℕ) (m : Misfit) → (length text == 0) ≡ false → step_at all c (before_first is_feed text) ≡ Err m → draft_from all c d (lines_of text) ≡ Err m
 draft_from-fault all c d text m some e =
-    rw (lines_of-first text some) (draft_from-Err all (line_at all c (before_first is_feed text)) (next_of c (before_first is_feed text)) d (lines_of (after_first is_feed text)) m e)
+    rw (lines_of-first text some) (draft_from-Err all (statement_of_line all c (before_first is_feed text)) (next_context c (before_first is_feed text)) d (lines_of (after_first is_feed text)) m e)
 
 -- the answer of a text with a line that does not fit
 pub GivesDraft-fault : (result : Result Draft AsmFault) (read : Result Draft Misfit) (m : Misfit) → IsErrAnd result (λ fault. fault ≡ faults.NotYet) → read ≡ Err m → GivesDraft result read

@@ -7,7 +7,7 @@ use Rattle.spur_asm.specs.Token.{Token, Name, Number, Mark, colon, is_dotted}
 use Rattle.spur_asm.specs.Item.{Item, Label, Page, Word, Board, Seg, Code, item_tokens}
 use Rattle.spur_asm.specs.Lexeme.{Lexeme}
 use Rattle.spur_asm.specs.Names.{sort_named}
-use Rattle.spur_asm.specs.Context.{label_in, label_of_two}
+use Rattle.spur_asm.specs.Context.{label_of_two, leading_label}
 use Rattle.spur_asm.specs.declared.fault.Kind.{Kind}
 use Rattle.spur_asm.specs.declared.statement.Sort.{Sort}
 use Rattle.spur_asm.proofs.Levels.{IsSound, AreTokens, sort_of}
@@ -126,14 +126,14 @@ no_label_by one other name (Mark mark) tokens first second fine =
 
 -- a statement's tokens begin with no label
 pub no_label : (one : Lexeme) (others : List Lexeme) (name : List ℕ) (tokens : List Token) → IsSound one (Name name) → AreTokens others tokens → no_colon tokens ≡ true
-    → label_in (one ∷ others) ≡ None
+    → leading_label (one ∷ others) ≡ None
 no_label one [] name tokens sound fields fine = refl
 no_label one (other ∷ others) name [] sound fields fine = absurd fields
 no_label one (other ∷ others) name (token ∷ tokens) sound fields fine = no_label_by one.token other.token name token tokens sound.token_is fields.0.token_is fine
 
 -- a label's tokens give its name
 pub some_label : (one other : Lexeme) (others : List Lexeme) (name : List ℕ) → is_dotted name ≡ false → IsSound one (Name name) → IsSound other colon
-    → label_in (one ∷ other ∷ others) ≡ Some name
+    → leading_label (one ∷ other ∷ others) ≡ Some name
 some_label one other others name plain first second =
     ap (λ (p : Result Token Kind × Result Token Kind). label_of_two p.0 p.1) (λ k. (first.token_is k, second.token_is k))
     ∙ ap (λ (b : Bool). if not b then Some name else None) plain

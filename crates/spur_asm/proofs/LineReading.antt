@@ -12,8 +12,8 @@ use Rattle.spur_asm.specs.Lexeme.{Lexeme}
 use Rattle.spur_asm.specs.Names.{sort_named}
 use Rattle.spur_asm.specs.Fields.{◌>>=◌}
 use Rattle.spur_asm.specs.Statements.{fields_at}
-use Rattle.spur_asm.specs.Context.{Placed, label_in, behind_label, behind_two, sort_in, label_fault, misplacement, immediate_of, place_named, distance, next_in, next_of, with_label, with_sort}
-use Rattle.spur_asm.specs.Line.{unless, sorted_at, begun_at, statement_at}
+use Rattle.spur_asm.specs.Context.{Placed, leading_label, behind_label, behind_two, sort_in, label_fault, misplacement, immediate_of, place_named, distance, next_in, next_context, with_label, with_sort}
+use Rattle.spur_asm.specs.Line.{unless_fault, sorted_at, begun_at, statement_at}
 use Rattle.spur_asm.specs.declared.fault.Kind.{Kind}
 use Rattle.spur_asm.specs.declared.fault.Misfit.{Misfit}
 use Rattle.spur_asm.specs.declared.statement.Context.{Context}
@@ -94,7 +94,7 @@ pub record Heads (lexemes : List Lexeme) (sort : Sort) (tokens : List Token) : T
   pub sound : IsSound one (Name name)
   pub sorted : sort_named name ≡ Some sort
   pub fields : AreTokens others tokens
-  pub unlabelled : label_in lexemes ≡ None
+  pub unlabelled : leading_label lexemes ≡ None
 
 pub heads : (item : Item) (sort : Sort) (lexemes : List Lexeme) → sort_of item ≡ Some sort → AreTokens lexemes (item_tokens item) → Heads lexemes sort (drop 1 (item_tokens item))
 heads item sort lexemes is are =
@@ -108,7 +108,7 @@ heads item sort lexemes is are =
       sound = b.sound;
       sorted = t.sort ∙ is;
       fields = b.fields;
-      unlabelled = ap label_in b.is ∙ no_label b.one b.others (item_name item) (drop 1 (item_tokens item)) b.sound b.fields t.fields;
+      unlabelled = ap leading_label b.is ∙ no_label b.one b.others (item_name item) (drop 1 (item_tokens item)) b.sound b.fields t.fields;
     }
 
 -- its sort is that of its first token
@@ -126,7 +126,7 @@ statement_read law all c item sort s lexemes is says range leads fine are =
     let begun : begun_at imm c h.one.token h.one.left h.others ≡ Ok s =
     ap (λ (t : Result Token Kind). begun_at imm c t h.one.left h.others) h.sound.token_is
     ∙ ap (λ (o : Option Sort). sorted_at imm c o h.one.left h.others) h.sorted
-    ∙ ap (λ (k : Option Kind). unless k h.one.left (fields_at imm sort h.others)) fine ∙ read in
+    ∙ ap (λ (k : Option Kind). unless_fault k h.one.left (fields_at imm sort h.others)) fine ∙ read in
     ap (statement_at imm c) h.is ∙ ap (λ (r : Result Statement Misfit). r >>= (λ x. Ok (Some x))) begun
 
 -- ---- the tokens of a line, by its shape
@@ -153,13 +153,13 @@ labels (one ∷ mark ∷ others) name tokens are =
 
 -- a label, and what stands behind it
 pub label_is : (lexemes : List Lexeme) (name : List ℕ) (tokens : List Token) → is_dotted name ≡ false → (l : Labels lexemes name tokens)
-    → (label_in lexemes ≡ Some name) × (behind_label lexemes ≡ l.others)
+    → (leading_label lexemes ≡ Some name) × (behind_label lexemes ≡ l.others)
 label_is lexemes name tokens plain l =
-    let some : label_in (l.one ∷ l.mark ∷ l.others) ≡ Some name = some_label l.one l.mark l.others name plain l.name_sound l.mark_sound in (
-      ap label_in l.is ∙ some,
+    let some : leading_label (l.one ∷ l.mark ∷ l.others) ≡ Some name = some_label l.one l.mark l.others name plain l.name_sound l.mark_sound in (
+      ap leading_label l.is ∙ some,
       ap behind_label l.is ∙ ap (λ (o : Option (List ℕ)). if Rattle.std.specs.Option.is_some o then l.others else l.one ∷ l.mark ∷ l.others) some,
     )
 
 -- without a label, all tokens are the statement's
-pub unlabelled_behind : (lexemes : List Lexeme) → label_in lexemes ≡ None → behind_label lexemes ≡ lexemes
+pub unlabelled_behind : (lexemes : List Lexeme) → leading_label lexemes ≡ None → behind_label lexemes ≡ lexemes
 unlabelled_behind lexemes none = ap (λ (o : Option (List ℕ)). if Rattle.std.specs.Option.is_some o then behind_two lexemes else lexemes) none

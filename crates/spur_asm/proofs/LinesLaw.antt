@@ -10,8 +10,8 @@ use Rattle.spur_asm.specs.Lexeme.{Lexeme, lexemes_of}
 use Rattle.spur_asm.specs.Names.{sort_named}
 use Rattle.spur_asm.specs.Fields.{◌>>=◌}
 use Rattle.spur_asm.specs.Statements.{fields_at}
-use Rattle.spur_asm.specs.Context.{Placed, label_in, label_of_two, behind_label, sort_in, label_fault, misplacement, immediate_of, next_in, next_of, with_label, with_sort}
-use Rattle.spur_asm.specs.Line.{line_in, line_at, left_of, unless, head_fault, sorted_at, begun_at, statement_at}
+use Rattle.spur_asm.specs.Context.{Placed, leading_label, label_of_two, behind_label, sort_in, label_fault, misplacement, immediate_of, next_in, next_context, with_label, with_sort}
+use Rattle.spur_asm.specs.Line.{statement_of_lexemes, statement_of_line, left_of, unless_fault, head_fault, sorted_at, begun_at, statement_at}
 use Rattle.spur_asm.specs.declared.fault.Kind.{Kind}
 use Rattle.spur_asm.specs.declared.fault.Misfit.{Misfit}
 use Rattle.spur_asm.specs.declared.statement.Context.{Context}
@@ -49,7 +49,7 @@ bind_ok (Ok x) f y e = (x, refl, e)
 bind_ok (Err m) f y e = absurd cc
 
 -- what has no fault
-unless_ok : {A : Type 0} (kind : Option Kind) (left : ℕ) (rest : Result A Misfit) (y : A) → unless kind left rest ≡ Ok y → (kind ≡ None) × (rest ≡ Ok y)
+unless_ok : {A : Type 0} (kind : Option Kind) (left : ℕ) (rest : Result A Misfit) (y : A) → unless_fault kind left rest ≡ Ok y → (kind ≡ None) × (rest ≡ Ok y)
 unless_ok None left rest y e = (refl, e)
 unless_ok (Some kind) left rest y e = absurd cc
 
@@ -78,24 +78,24 @@ module _ (law : FieldsLaw) (all : List Placed) (c : Context) (lexemes : List Lex
   read_nothing rest is none = ap (statement_at (immediate_of all c) c) is ∙ ap okay (sym none)
 
   -- a line without a label
-  read_bare : (label_in lexemes ≡ None) → statement_at (immediate_of all c) c lexemes ≡ Ok s → line_in all c lexemes ≡ Ok s
+  read_bare : (leading_label lexemes ≡ None) → statement_at (immediate_of all c) c lexemes ≡ Ok s → statement_of_lexemes all c lexemes ≡ Ok s
   read_bare none read =
-      ap (λ (o : Option (List ℕ)). unless (head_fault all c o) (left_of lexemes) (statement_at (immediate_of all c) c (behind_label lexemes))) none
+      ap (λ (o : Option (List ℕ)). unless_fault (head_fault all c o) (left_of lexemes) (statement_at (immediate_of all c) c (behind_label lexemes))) none
       ∙ ap (statement_at (immediate_of all c) c) (unlabelled_behind lexemes none) ∙ read
 
   -- a line with one
-  read_labelled : (name : List ℕ) (rest : List Lexeme) → label_in lexemes ≡ Some name → behind_label lexemes ≡ rest → label_fault all c name ≡ None
-      → statement_at (immediate_of all c) c rest ≡ Ok s → line_in all c lexemes ≡ Ok s
+  read_labelled : (name : List ℕ) (rest : List Lexeme) → leading_label lexemes ≡ Some name → behind_label lexemes ≡ rest → label_fault all c name ≡ None
+      → statement_at (immediate_of all c) c rest ≡ Ok s → statement_of_lexemes all c lexemes ≡ Ok s
   read_labelled name rest some behind fine read =
-      ap (λ (o : Option (List ℕ)). unless (head_fault all c o) (left_of lexemes) (statement_at (immediate_of all c) c (behind_label lexemes))) some
-      ∙ ap (λ (k : Option Kind). unless k (left_of lexemes) (statement_at (immediate_of all c) c (behind_label lexemes))) fine
+      ap (λ (o : Option (List ℕ)). unless_fault (head_fault all c o) (left_of lexemes) (statement_at (immediate_of all c) c (behind_label lexemes))) some
+      ∙ ap (λ (k : Option Kind). unless_fault k (left_of lexemes) (statement_at (immediate_of all c) c (behind_label lexemes))) fine
       ∙ ap (statement_at (immediate_of all c) c) behind ∙ read
 
-  read_said : (items : List Item) → Shape items → Said all c lexemes s items → line_in all c lexemes ≡ Ok s
+  read_said : (items : List Item) → Shape items → Said all c lexemes s items → statement_of_lexemes all c lexemes ≡ Ok s
   read_said items (Blank is) said =
       let h : Said all c lexemes s [] = subst (Said all c lexemes s) is said in
       let none = no_lexemes lexemes h.tokens in
-      read_bare (ap label_in none) (read_nothing lexemes none (nothing_said s h.says))
+      read_bare (ap leading_label none) (read_nothing lexemes none (nothing_said s h.says))
   read_said items (Labelled name is) said =
       let h : Said all c lexemes s (Label name ∷ []) = subst (Said all c lexemes s) is said in
       let l = labels lexemes name [] h.tokens in
@@ -221,7 +221,7 @@ two_are (Ok (Name first)) (Ok (Name second)) name e = absurd cc
 two_are (Ok (Name first)) (Ok (Number z)) name e = absurd cc
 two_are (Ok (Name first)) (Ok (Mark m)) name e = two_by first name m (m == 58) (is_dotted first) refl refl e
 
-label_found : (lexemes : List Lexeme) (name : List ℕ) → label_in lexemes ≡ Some name → LabelFound lexemes name
+label_found : (lexemes : List Lexeme) (name : List ℕ) → leading_label lexemes ≡ Some name → LabelFound lexemes name
 label_found [] name e = absurd cc
 label_found (one ∷ []) name e = absurd cc
 label_found (one ∷ mark ∷ others) name e =
@@ -265,7 +265,7 @@ record LabelSound (lexemes : List Lexeme) (name : List ℕ) : Type 0 where
 free_from : (first : Bool) (lexemes : List Lexeme) → first ≡ true → AreFree first lexemes → AreFree true lexemes
 free_from first lexemes is free = subst (λ (b : Bool). AreFree b lexemes) is free
 
-label_sound : (lexemes : List Lexeme) (name : List ℕ) → AreFree true lexemes → label_in lexemes ≡ Some name → LabelSound lexemes name
+label_sound : (lexemes : List Lexeme) (name : List ℕ) → AreFree true lexemes → leading_label lexemes ≡ Some name → LabelSound lexemes name
 label_sound lexemes name free e =
     let f = label_found lexemes name e in
     let frees : AreFree true (f.one ∷ f.mark ∷ f.others) = subst (AreFree true) f.is free in
@@ -326,13 +326,13 @@ module _ (tokens_law : TokensLaw) (free_law : FreeLaw) (fields_law : FieldsLaw) 
   labelled_by name l fine (Nothing empty none) = labelled_says tokens_law all c line s name l fine empty none
   labelled_by name l fine (Statement' st is f) = both_says tokens_law all c line s name l fine st is f
 
-  line_by : (label : Option (List ℕ)) → label_in (lexemes_of line) ≡ label → line_in all c (lexemes_of line) ≡ Ok s → LineSays all c line s
+  line_by : (label : Option (List ℕ)) → leading_label (lexemes_of line) ≡ label → statement_of_lexemes all c (lexemes_of line) ≡ Ok s → LineSays all c line s
   line_by None is e =
-      let u = unless_ok (head_fault all c (label_in (lexemes_of line))) (left_of (lexemes_of line)) (statement_at (immediate_of all c) c (behind_label (lexemes_of line))) s e in
+      let u = unless_ok (head_fault all c (leading_label (lexemes_of line))) (left_of (lexemes_of line)) (statement_at (immediate_of all c) c (behind_label (lexemes_of line))) s e in
       bare_by (found fields_law all c (lexemes_of line) s (free_law line)
       (sym (ap (statement_at (immediate_of all c) c) (unlabelled_behind (lexemes_of line) is)) ∙ u.1))
   line_by (Some name) is e =
-      let u = unless_ok (head_fault all c (label_in (lexemes_of line))) (left_of (lexemes_of line)) (statement_at (immediate_of all c) c (behind_label (lexemes_of line))) s e in
+      let u = unless_ok (head_fault all c (leading_label (lexemes_of line))) (left_of (lexemes_of line)) (statement_at (immediate_of all c) c (behind_label (lexemes_of line))) s e in
       let l = label_sound (lexemes_of line) name (free_law line) is in
       let fine : label_fault all c name ≡ None = sym (ap (head_fault all c) is) ∙ u.0 in
       let behind : behind_label (lexemes_of line) ≡ l.found.others =
@@ -341,9 +341,9 @@ module _ (tokens_law : TokensLaw) (free_law : FreeLaw) (fields_law : FieldsLaw) 
       labelled_by name l fine (found fields_law all c l.found.others s l.rest_free (sym (ap (statement_at (immediate_of all c) c) behind) ∙ u.1))
 
 pub line_law : TokensLaw → FreeLaw → FieldsLaw → LineLaw
-unfolding line_at
+unfolding statement_of_line
 line_law tokens_law free_law fields_law all c line s = (
-  λ e. line_by tokens_law free_law fields_law all c line s (label_in (lexemes_of line)) refl e,
+  λ e. line_by tokens_law free_law fields_law all c line s (leading_label (lexemes_of line)) refl e,
   λ says. read_said fields_law all c (lexemes_of line) s says.items (shape says.items says.spelled.is_line) record {
     tokens = tokens_of tokens_law line says.items says.spelled;
     in_range = says.spelled.in_range;

@@ -3,7 +3,7 @@ use Rattle.std.proofs.Common.{◌≡◌, ℕ, List, [], ◌∷◌, ◌++◌, Opt
 use Rattle.std.specs.List.{All, flat_map}
 use Rattle.spur_asm.specs.Item.{Item, Label, IsItem, item_tokens, SpellsLine}
 use Rattle.spur_asm.specs.Lexeme.{Lexeme, lexemes_of}
-use Rattle.spur_asm.specs.Context.{label_in, behind_label, sort_in, next_in, next_of, with_label, with_sort}
+use Rattle.spur_asm.specs.Context.{leading_label, behind_label, sort_in, next_in, next_context, with_label, with_sort}
 use Rattle.spur_asm.specs.declared.statement.Context.{Context}
 use Rattle.spur_asm.specs.declared.statement.Sort.{Sort}
 use Rattle.spur_asm.proofs.Levels.{AreTokens, TokensLaw, label_of, label_of_line, behind_items, NextLaw, LabelLaw, LinesFromTokens}
@@ -13,7 +13,7 @@ use Rattle.spur_asm.proofs.LinesLaw.{line_law, one_item, first_item, tokens_of}
 
 -- the label and the sort with which a line's tokens begin are those of its items
 record Told (lexemes : List Lexeme) (items : List Item) (label : Option (List ℕ)) (sort : Option Sort) : Type 0 where
-  label_is : label_in lexemes ≡ label
+  label_is : leading_label lexemes ≡ label
   sort_is : sort_in (behind_label lexemes) ≡ sort
 
 module _ (c : Context) (lexemes : List Lexeme) where
@@ -21,7 +21,7 @@ module _ (c : Context) (lexemes : List Lexeme) where
   next_by items label sort t = ap (λ (p : Option Sort × Option (List ℕ)). with_sort p.0 (with_label p.1 c)) (λ k. (t.sort_is k, t.label_is k))
 
   record NextIs (items : List Item) : Type 0 where
-    label_is : label_in lexemes ≡ label_of_line items
+    label_is : leading_label lexemes ≡ label_of_line items
     next_is : next_in c lexemes ≡ behind_items c items
 
   bare_is : (item : Item) → label_of item ≡ None → AreTokens lexemes (item_tokens item) → NextIs (item ∷ [])
@@ -52,7 +52,7 @@ module _ (c : Context) (lexemes : List Lexeme) where
   is_next : (items : List Item) → Shape items → All IsItem items → AreTokens lexemes (flat_map item_tokens items) → NextIs items
   is_next items (Blank is) range tokens =
       let none = no_lexemes lexemes (subst (λ (xs : List Item). AreTokens lexemes (flat_map item_tokens xs)) is tokens) in
-      subst NextIs (sym is) record { label_is = ap label_in none; next_is = ap (next_in c) none }
+      subst NextIs (sym is) record { label_is = ap leading_label none; next_is = ap (next_in c) none }
   is_next items (Labelled name is) range tokens =
       let l = labels lexemes name [] (subst (λ (xs : List Item). AreTokens lexemes (flat_map item_tokens xs)) is tokens) in
       let at = label_is lexemes name [] (one_item (Label name) (subst (All IsItem) is range)) l in

@@ -6,7 +6,7 @@ use Rattle.std.specs.List.{list_all}
 use Rattle.std.specs.Option.{option_map}
 use Rattle.std.specs.Str.Parse.{AllDigits, digits_value_after, digits_value}
 use Rattle.spur_asm.specs.Bytes.{is_number_byte, is_number_start}
-use Rattle.spur_asm.specs.Number.{digits_after, digits_of, magnitude_of, number_of}
+use Rattle.spur_asm.specs.Number.{digits_after, digits_of, magnitude_of, numeral_value}
 use Rattle.spur_asm.specs.Spelling.{IsDigits, IsMagnitude, IsNumber}
 use Rattle.spur_asm.proofs.ByteLemmas.{decimal_is_digit, digit_no_minus, digit_no_x, hexadecimal_is_number_byte}
 
@@ -77,7 +77,7 @@ minus_of_positive : (c : ℕ) (cs : List ℕ) (n : ℕ) → IsMagnitude (c ∷ c
 minus_of_positive c cs n (inl d) = digit_no_minus c (decimal_is_digit c d.are_digits.numeral.1.0)
 minus_of_positive c cs n (inr h) = let first : c ≡ 48 = cc in rw first refl
 
-pub number_read : (text : List ℕ) (z : ℤ) → IsNumber text z → number_of text ≡ Some z
+pub number_read : (text : List ℕ) (z : ℤ) → IsNumber text z → numeral_value text ≡ Some z
 number_read [] z (inl p) = absurd (let e = magnitude_read [] p.magnitude p.is_magnitude in cc)
 number_read (c ∷ cs) z (inl p) =
     rw (minus_of_positive c cs p.magnitude p.is_magnitude, magnitude_read (c ∷ cs) p.magnitude p.is_magnitude, p.value) refl
@@ -96,7 +96,7 @@ minus_or c cs z false o None b q r e = absurd cc
 minus_or c cs z false o (Some v) b q r e =
     inl (record { magnitude = v; is_magnitude = magnitude_is (c ∷ cs) v r; value = some_is (pos v) z e })
 
-pub number_is : (text : List ℕ) (z : ℤ) → number_of text ≡ Some z → IsNumber text z
+pub number_is : (text : List ℕ) (z : ℤ) → numeral_value text ≡ Some z → IsNumber text z
 number_is [] z e = absurd cc
 number_is (c ∷ cs) z e = minus_or c cs z (eqb c 45) (magnitude_of cs) (magnitude_of (c ∷ cs)) refl refl refl e
 

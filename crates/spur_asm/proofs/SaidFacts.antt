@@ -1,19 +1,19 @@
 -- What an answer that was read of a text says of it, where reading gives what the text says.
 use Rattle.std.proofs.Common.{◌≡◌, ℕ, List, Some, Result, Ok, Err, IfOk}
 use Rattle.spur_asm.specs.Says.{Says}
-use Rattle.spur_asm.specs.Text.{unit_of, Gives}
+use Rattle.spur_asm.specs.Text.{unit_of, GivesUnit}
 use Rattle.spur_asm.specs.Laws.{ReadsWhatIsSaid}
 use Rattle.spur_asm.specs.declared.fault.AsmFault.{AsmFault}
 use Rattle.spur_asm.specs.declared.fault.AsmFault.TheVariants as faults
 use Rattle.spur_object.specs.declared.unit.Unit as units
 
 -- a unit that is the answer is the one that the text says
-pub says_if-Ok : (law : ReadsWhatIsSaid) (text : List ℕ) (result : Result units.Unit AsmFault) → Gives result (unit_of text) → IfOk result (λ u. Says text u)
+pub says_if-Ok : (law : ReadsWhatIsSaid) (text : List ℕ) (result : Result units.Unit AsmFault) → GivesUnit result (unit_of text) → IfOk result (λ u. Says text u)
 says_if-Ok law text (Ok u) gives = (law text u).1 gives
 says_if-Ok law text (Err fault) gives = tt
 
 -- a text whose answer is that it is not of the form says no unit
-pub says_none-NotYet : (law : ReadsWhatIsSaid) (text : List ℕ) (result : Result units.Unit AsmFault) → Gives result (unit_of text) → result ≡ Err faults.NotYet → (u : units.Unit) → Says text u → ⊥
+pub says_none-NotYet : (law : ReadsWhatIsSaid) (text : List ℕ) (result : Result units.Unit AsmFault) → GivesUnit result (unit_of text) → result ≡ Err faults.NotYet → (u : units.Unit) → Says text u → ⊥
 says_none-NotYet law text (Ok v) gives is u said = cc
 says_none-NotYet law text (Err faults.NotYet) gives is u said =
     let read : unit_of text ≡ Some u = (law text u).0 said in

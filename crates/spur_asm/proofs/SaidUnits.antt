@@ -8,7 +8,7 @@ use Rattle.spur_object.specs.Limits.{IsBoard, IsPage, IsWord, IsUnit}
 use Rattle.spur_object.specs.declared.unit.BoardText.{BoardText}
 use Rattle.spur_object.specs.declared.unit.Unit as units
 use Rattle.spur_asm.specs.Item.{Item, Page, Word, Seg, Code, IsItem, IsPageItem, IsWordItem, SpellsLine}
-use Rattle.spur_asm.specs.Section.{page_in, word_in, segs_in, code_in, low_word, SetsSegs, SaysBoard}
+use Rattle.spur_asm.specs.Section.{page_text_in, word_text_in, segs_in, code_in, low_word, SetsSegs, SaysBoard}
 use Rattle.spur_asm.specs.Says.{sections, Says}
 use Rattle.spur_asm.proofs.ItemLines.{joined}
 
@@ -39,11 +39,11 @@ word_fits segment offset value h =
     let c = h.aligned in
     record { aligned = omega arith; below = omega arith; value = low_fits value }
 
-page_kept : (item : Item) → IsItem item → IfSome (page_in item) IsPage
+page_kept : (item : Item) → IsItem item → IfSome (page_text_in item) IsPage
 page_kept (Page segment place prot) h = page_fits segment place h
 page_kept (item) h = tt
 
-word_kept : (item : Item) → IsItem item → IfSome (word_in item) IsWord
+word_kept : (item : Item) → IsItem item → IfSome (word_text_in item) IsWord
 word_kept (Word segment offset value) h = word_fits segment offset value h
 word_kept (item) h = tt
 
@@ -117,6 +117,6 @@ said_unit text unit said =
       few_pages = (let few = said.loadable.few_pages in omega arith);
       few_words = said.few_words;
       boards = All-from_recursion IsBoard unit.boards (boards_fit said.parts unit.boards (items_of_parts said.parts split.1) said.boards);
-      pages = All-from_recursion IsPage unit.pages (subst (AllByRecursion IsPage) (sym said.pages) (all_kept IsPage page_in page_kept items all));
-      words = All-from_recursion IsWord unit.words (subst (AllByRecursion IsWord) (sym said.words) (all_kept IsWord word_in word_kept items all));
+      pages = All-from_recursion IsPage unit.pages (subst (AllByRecursion IsPage) (sym said.pages) (all_kept IsPage page_text_in page_kept items all));
+      words = All-from_recursion IsWord unit.words (subst (AllByRecursion IsWord) (sym said.words) (all_kept IsWord word_text_in word_kept items all));
     }

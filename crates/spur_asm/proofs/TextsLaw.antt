@@ -9,7 +9,7 @@ use Rattle.spur_object.specs.declared.unit.PageText.{PageText}
 use Rattle.spur_object.specs.declared.unit.WordText.{WordText}
 use Rattle.spur_object.specs.declared.unit.Unit as units
 use Rattle.spur_asm.specs.Item.{Item, Board, SpellsLine}
-use Rattle.spur_asm.specs.Section.{page_in, word_in}
+use Rattle.spur_asm.specs.Section.{page_text_in, word_text_in}
 use Rattle.spur_asm.specs.Says.{IsAnywhere, sections, Says}
 use Rattle.spur_asm.specs.Loadable.{IsLoadable, is_loadable}
 use Rattle.spur_asm.specs.Context.{Placed, first_context, labels_from}
@@ -46,7 +46,7 @@ made front parts anywhere whole =
     ∙ ap (λ (bs : List BoardText). bs ++ boards_of parts) none
 
 unit_made : (items front : List Item) (parts : List (List Item)) → items ≡ front ++ sections parts → AllByRecursion IsAnywhere front → AllByRecursion HasNoBoard parts
-    → unit_in (drafted empty_draft items) ≡ record { boards = boards_of parts; pages = filter_map page_in items; words = filter_map word_in items }
+    → unit_in (drafted empty_draft items) ≡ record { boards = boards_of parts; pages = filter_map page_text_in items; words = filter_map word_text_in items }
 unit_made items front parts split anywhere whole =
     let boards : all_boards (drafted empty_draft items) ≡ boards_of parts = ap (λ (is : List Item). all_boards (drafted empty_draft is)) split ∙ made front parts anywhere whole in
     let pages = pages_drafted empty_draft items in
@@ -85,14 +85,14 @@ whole_parts parts h = recursion_from_All HasNoBoard parts (λ k d lt. recursion_
 parts_whole : (parts : List (List Item)) → AllByRecursion HasNoBoard parts → All (λ part. All (λ item. item ≢ Board) part) parts
 parts_whole parts h = λ k d lt. All-from_recursion IsNoBoard (slice_index_or parts k d) (All-from_recursion HasNoBoard parts h k d lt)
 
-unit_is : (unit : units.Unit) (parts : List (List Item)) (items : List Item) → unit.boards ≡ boards_of parts → unit.pages ≡ filter_map page_in items → unit.words ≡ filter_map word_in items
-    → record { boards = boards_of parts; pages = filter_map page_in items; words = filter_map word_in items } ≡ unit
+unit_is : (unit : units.Unit) (parts : List (List Item)) (items : List Item) → unit.boards ≡ boards_of parts → unit.pages ≡ filter_map page_text_in items → unit.words ≡ filter_map word_text_in items
+    → record { boards = boards_of parts; pages = filter_map page_text_in items; words = filter_map word_text_in items } ≡ unit
 unit_is unit parts items boards pages words =
-    let same : unit ≡ record { boards = boards_of parts; pages = filter_map page_in items; words = filter_map word_in items } = λ k. record { boards = boards k; pages = pages k; words = words k } in
+    let same : unit ≡ record { boards = boards_of parts; pages = filter_map page_text_in items; words = filter_map word_text_in items } = λ k. record { boards = boards k; pages = pages k; words = words k } in
     sym same
 
 few_said : (items front : List Item) (parts : List (List Item)) → items ≡ front ++ sections parts → AllByRecursion IsAnywhere front → AllByRecursion HasNoBoard parts
-    → length parts ≤ 12 → length (filter_map page_in items) ≤ 2048 → length (filter_map word_in items) ≤ 65536 → IsFew (behind_items first_context items)
+    → length parts ≤ 12 → length (filter_map page_text_in items) ≤ 2048 → length (filter_map word_text_in items) ≤ 65536 → IsFew (behind_items first_context items)
 few_said items front parts split anywhere whole few_boards few_pages few_words =
     let pages = pages_behind first_context items in
     let words = words_behind first_context items in
@@ -145,8 +145,8 @@ module _ (law : LineLaw) (next : NextLaw) (label : LabelLaw) where
 
   says_from : (text : List ℕ) (items : List (List Item)) (front : List Item) (parts : List (List Item)) → AllZip SpellsLine (lines_of text) items → joined items ≡ front ++ sections parts
       → AllByRecursion HasNoBoard parts → AreSound front parts → 1 ≤ length parts
-      → IsLoadable (record { boards = boards_of parts; pages = filter_map page_in (joined items); words = filter_map word_in (joined items) })
-      → Says text (record { boards = boards_of parts; pages = filter_map page_in (joined items); words = filter_map word_in (joined items) })
+      → IsLoadable (record { boards = boards_of parts; pages = filter_map page_text_in (joined items); words = filter_map word_text_in (joined items) })
+      → Says text (record { boards = boards_of parts; pages = filter_map page_text_in (joined items); words = filter_map word_text_in (joined items) })
   says_from text items front parts spelled split whole sound some loadable =
       let few : IsFew (behind_items first_context (joined items)) = subst (λ (is : List Item). IsFew (behind_items first_context is)) (sym split) sound.few in
       let words = words_behind first_context (joined items) in
@@ -180,7 +180,7 @@ module _ (law : LineLaw) (next : NextLaw) (label : LabelLaw) where
       let end = at_end_back (drafted empty_draft items) d h.draft in
       let some = begun_some s.front s.parts sound.anywhere (sym (ap (λ (is : List Item). is_some (drafted empty_draft is).begun) split) ∙ end.0) in
       let same = ap unit_in (sym end.1) ∙ unit_made items s.front s.parts split sound.anywhere s.whole in
-      let loadable = passed_loadable (record { boards = boards_of s.parts; pages = filter_map page_in items; words = filter_map word_in items }) (sym (ap is_loadable same) ∙ passes) in
+      let loadable = passed_loadable (record { boards = boards_of s.parts; pages = filter_map page_text_in items; words = filter_map word_text_in items }) (sym (ap is_loadable same) ∙ passes) in
       subst (Says text) (sym same) (says_from text h.items s.front s.parts h.spelled split s.whole sound some loadable)
 
   read_as : (text : List ℕ) (unit : units.Unit) (d : Draft) (b : Bool) → draft_in (lines_of text) ≡ Ok d → is_loadable (unit_in d) ≡ b → (if b then Some (unit_in d) else None) ≡ Some unit → Says text unit

@@ -5,7 +5,7 @@ use Rattle.std.specs.Char.{is_ascii_graphic}
 use Rattle.std.specs.List.{list_all, prefix_len, take_while}
 use Rattle.spur_asm.specs.Bytes.{is_blank, is_mark, is_name_byte, is_name_start, is_number_byte, is_number_start, is_semicolon}
 use Rattle.spur_asm.specs.Lexeme.{begins_word, more_of, named, numbered, token_at}
-use Rattle.spur_asm.specs.Number.{number_of}
+use Rattle.spur_asm.specs.Number.{numeral_value}
 use Rattle.spur_asm.specs.Spelling.{IsName, IsText}
 use Rattle.spur_asm.specs.Token.{Token, Name, Number, Mark, is_word}
 use Rattle.spur_asm.specs.declared.fault.Kind.{Kind}
@@ -37,7 +37,7 @@ number_stops [] stops = tt
 number_stops (b ∷ rest) stops = no_number_byte b stops
 
 number_token_read : (first : ℕ) (more rest : List ℕ) (z : ℤ) → is_number_start first ≡ true → list_all is_number_byte more ≡ true
-    → number_of (first ∷ more) ≡ Some z → Stops is_number_byte rest → IsRead (Number z) first (more ++ rest) rest
+    → numeral_value (first ∷ more) ≡ Some z → Stops is_number_byte rest → IsRead (Number z) first (more ++ rest) rest
 number_token_read first more rest z starts on value stops =
     let no_name = number_start_no_name_start first starts in
     record {
@@ -77,7 +77,7 @@ text_read (Name name) text rest t ends =
     }
 text_read (Number z) text rest t ends =
     let n = number_text text z t in
-    let value : number_of (n.first ∷ n.more) ≡ Some z = ap number_of (sym n.is) ∙ number_read text z t in
+    let value : numeral_value (n.first ∷ n.more) ≡ Some z = ap numeral_value (sym n.is) ∙ number_read text z t in
     record {
       first = n.first;
       more = n.more;
@@ -103,7 +103,7 @@ name_is false b more token starts on short e =
     let name : IsName (b ∷ more) = record { first = b; more = more; is = refl; starts = starts; goes_on = on; short = ltb-false 64 (length (b ∷ more)) short } in
     subst (λ (t : Token). TextIs t (b ∷ more) true) (ok_is (Name (b ∷ more)) token e) (record { is_text = (refl, name); word_is = refl })
 
-number_token_is : (o : Option ℤ) (text : List ℕ) (token : Token) → number_of text ≡ o → numbered o ≡ Ok token → TextIs token text true
+number_token_is : (o : Option ℤ) (text : List ℕ) (token : Token) → numeral_value text ≡ o → numbered o ≡ Ok token → TextIs token text true
 number_token_is None text token value e = absurd cc
 number_token_is (Some z) text token value e =
     subst (λ (t : Token). TextIs t text true) (ok_is (Number z) token e) (record { is_text = number_is text z value; word_is = refl })
@@ -115,12 +115,12 @@ mark_is false true b token mark e = absurd cc
 mark_is false false b token mark e = absurd cc
 
 token_or : (s n m g : Bool) (b : ℕ) (bytes : List ℕ) (token : Token) → is_name_start b ≡ s → is_number_start b ≡ n → is_mark b ≡ m
-    → cond s (named (b ∷ take_while is_name_byte bytes)) (cond n (numbered (number_of (b ∷ take_while is_number_byte bytes))) (cond m (Ok (Mark b)) (cond g (Err BadToken) (Err BadByte)))) ≡ Ok token
+    → cond s (named (b ∷ take_while is_name_byte bytes)) (cond n (numbered (numeral_value (b ∷ take_while is_number_byte bytes))) (cond m (Ok (Mark b)) (cond g (Err BadToken) (Err BadByte)))) ≡ Ok token
     → TextIs token (b ∷ take (cond s (prefix_len is_name_byte bytes) (cond n (prefix_len is_number_byte bytes) 0)) bytes) (s || n)
 token_or true n m g b bytes token starts number mark e =
     name_is (ltb 64 (length (b ∷ take_while is_name_byte bytes))) b (take_while is_name_byte bytes) token starts (front_passes is_name_byte bytes) refl e
 token_or false true m g b bytes token starts number mark e =
-    number_token_is (number_of (b ∷ take_while is_number_byte bytes)) (b ∷ take_while is_number_byte bytes) token refl e
+    number_token_is (numeral_value (b ∷ take_while is_number_byte bytes)) (b ∷ take_while is_number_byte bytes) token refl e
 token_or false false m g b bytes token starts number mark e = mark_is m g b token mark e
 
 -- the token at a byte has this byte's text, as far as it is read

@@ -11,7 +11,7 @@ use Rattle.spur_addr.specs.declared.page_entry.Protection.{Protection}
 use Rattle.spur_addr.specs.declared.page_entry.Protection.TheVariants.{Nothing, ReadOnly, ReadWrite}
 use Rattle.spur_asm.specs.Token.{Token, Name, Number, Mark}
 use Rattle.spur_asm.specs.Item.{register, register_text, protection_text, natural}
-use Rattle.spur_asm.specs.Fields.{◌>>=◌, known, mark_in, register_of, register_in, protection_of, protection_in, number_in, natural_in, offset_in, label_in}
+use Rattle.spur_asm.specs.Fields.{◌>>=◌, known, mark_in, named_register, register_in, named_protection, protection_in, number_in, natural_in, offset_in, label_in}
 use Rattle.spur_asm.specs.declared.fault.Kind.{Kind}
 use Rattle.spur_asm.specs.declared.fault.Kind.TheVariants.{BadNumber, NoLabel, UnknownName}
 
@@ -69,17 +69,17 @@ digit_low c e = grind (arith, nat_tests)
 digit_high : (c : ℕ) → is_ascii_digit c ≡ true → c ≤ 57
 digit_high c e = grind (arith, nat_tests)
 
-one_digit : (a : ℕ) → a < 10 → register_of (114 ∷ (48 + a) ∷ []) ≡ Some a
+one_digit : (a : ℕ) → a < 10 → named_register (114 ∷ (48 + a) ∷ []) ≡ Some a
 one_digit a low =
     let back : 48 + a - 48 ≡ a = omega arith in
     rw (digit_tests (48 + a) (omega arith) (omega arith), back) refl
 
-two_digits : (a : ℕ) → 10 ≤ a → a < 16 → register_of (114 ∷ 49 ∷ (48 + (a - 10)) ∷ []) ≡ Some a
+two_digits : (a : ℕ) → 10 ≤ a → a < 16 → named_register (114 ∷ 49 ∷ (48 + (a - 10)) ∷ []) ≡ Some a
 two_digits a high below =
     let back : 48 + (a - 10) - 38 ≡ a = omega arith in
     rw (digit_tests (48 + (a - 10)) (omega arith) (omega arith), lt-ltb (48 + (a - 10)) 54 (omega arith), back) refl
 
-register_named : (a : ℕ) → a < 16 → register_of (register_text a) ≡ Some a
+register_named : (a : ℕ) → a < 16 → named_register (register_text a) ≡ Some a
 register_named a below =
     elim (cases_lt a 10) [
       | inl low ↦ rw (lt-ltb a 10 low) (one_digit a low)
@@ -121,7 +121,7 @@ three_is r one d a e =
     let digit : d ≡ 48 + (a - 10) = omega arith in
     record { below = omega arith; spelled = rw (le-ltb a 10 high, head, second, digit) refl }
 
-register_name_is : (name : List ℕ) (a : ℕ) → register_of name ≡ Some a → IsRegister name a
+register_name_is : (name : List ℕ) (a : ℕ) → named_register name ≡ Some a → IsRegister name a
 register_name_is [] a e = absurd cc
 register_name_is (r ∷ []) a e = absurd cc
 register_name_is (r ∷ d ∷ []) a e = two_is r d a e
@@ -130,7 +130,7 @@ register_name_is (r ∷ one ∷ d ∷ x ∷ more) a e = absurd cc
 
 pub register_is : (token : Token) (a : ℕ) → register_in token ≡ Ok a → (a < 16) × (token ≡ register a)
 register_is (Name name) a e =
-    let is = register_name_is name a (known_is UnknownName (register_of name) a e) in
+    let is = register_name_is name a (known_is UnknownName (named_register name) a e) in
     (is.below, ap (λ (text : List ℕ). Name text) is.spelled)
 register_is (Number z) a e = absurd cc
 register_is (Mark mark) a e = absurd cc
@@ -148,7 +148,7 @@ named_or f name key x y others key_is next e = by_test (bytes_eq name key) refl 
         (bytes_eq-Decides name key).0 t ∙ sym key_is ∙ ap f same
     by_test false t e = next e
 
-protection_name_is : (name : List ℕ) (prot : Protection) → protection_of name ≡ Some prot → name ≡ protection_text prot
+protection_name_is : (name : List ℕ) (prot : Protection) → named_protection name ≡ Some prot → name ≡ protection_text prot
 protection_name_is name prot e =
     named_or protection_text name (codes "none") Nothing prot _ refl (λ e1.
     named_or protection_text name (codes "ro") ReadOnly prot _ refl (λ e2.
@@ -160,7 +160,7 @@ protection_read ReadOnly = refl
 protection_read ReadWrite = refl
 
 pub protection_is : (token : Token) (prot : Protection) → protection_in token ≡ Ok prot → token ≡ Name (protection_text prot)
-protection_is (Name name) prot e = ap (λ (text : List ℕ). Name text) (protection_name_is name prot (known_is UnknownName (protection_of name) prot e))
+protection_is (Name name) prot e = ap (λ (text : List ℕ). Name text) (protection_name_is name prot (known_is UnknownName (named_protection name) prot e))
 protection_is (Number z) prot e = absurd cc
 protection_is (Mark mark) prot e = absurd cc
 

@@ -22,10 +22,10 @@ label_of_two (Ok (Name name)) (Ok (Mark mark)) = if mark == 58 && not (is_dotted
 label_of_two one other = None
 
 -- the label with which tokens begin, whatever follows
-abbrev pub label_in : List Lexeme → Option (List ℕ)
-label_in [] = None
-label_in (one ∷ []) = None
-label_in (one ∷ other ∷ lexemes) = label_of_two one.token other.token
+abbrev pub leading_label : List Lexeme → Option (List ℕ)
+leading_label [] = None
+leading_label (one ∷ []) = None
+leading_label (one ∷ other ∷ lexemes) = label_of_two one.token other.token
 
 -- the tokens behind the label, if there is one
 abbrev pub behind_two : List Lexeme → List Lexeme
@@ -34,7 +34,7 @@ behind_two (one ∷ []) = []
 behind_two (one ∷ other ∷ lexemes) = lexemes
 
 abbrev pub behind_label : List Lexeme → List Lexeme
-behind_label lexemes = if is_some (label_in lexemes) then behind_two lexemes else lexemes
+behind_label lexemes = if is_some (leading_label lexemes) then behind_two lexemes else lexemes
 
 -- ---- the sort of a line
 
@@ -67,11 +67,11 @@ with_sort (Some Seg) c = record c { segs = c.segs + 1 }
 with_sort (Some (Code operation)) c = record c { codes = c.codes + 1 }
 
 abbrev pub next_in : Context → List Lexeme → Context
-next_in c lexemes = with_sort (sort_in (behind_label lexemes)) (with_label (label_in lexemes) c)
+next_in c lexemes = with_sort (sort_in (behind_label lexemes)) (with_label (leading_label lexemes) c)
 
 -- the context of the line behind this one
-abbrev pub next_of : Context → List ℕ → Context
-next_of c line = next_in c (lexemes_of line)
+abbrev pub next_context : Context → List ℕ → Context
+next_context c line = next_in c (lexemes_of line)
 
 -- each count is at most k
 pub record IsWithin (k : ℕ) (c : Context) : Type 0 where
@@ -100,7 +100,7 @@ onto_labels c (Some name) all = record { board = c.boards; name = name; place = 
 -- the labels of lines, of which the first has this context
 abbrev pub labels_from : Context → List (List ℕ) → List Placed
 labels_from c [] = []
-labels_from c (line ∷ lines) = onto_labels c (label_in (lexemes_of line)) (labels_from (next_of c line) lines)
+labels_from c (line ∷ lines) = onto_labels c (leading_label (lexemes_of line)) (labels_from (next_context c line) lines)
 
 -- whether a label is this board's and has this name
 abbrev pub is_label : ℕ → List ℕ → Placed → Bool

@@ -36,9 +36,9 @@ with_statement d (Seg segs) = record d { begun = option_map (with_segs segs) d.b
 with_statement d (Code instr) = record d { begun = option_map (with_instr instr) d.begun }
 
 -- the draft with the statement of one more line
-abbrev pub with_line : Draft → Option Statement → Draft
-with_line d None = d
-with_line d (Some statement) = with_statement d statement
+abbrev pub with_line_statement : Draft → Option Statement → Draft
+with_line_statement d None = d
+with_line_statement d (Some statement) = with_statement d statement
 
 -- the unit of a draft
 abbrev pub unit_in : Draft → units.Unit

@@ -23,9 +23,9 @@ misfit kind left = record { kind = kind; left = left }
 -- ---- any field
 
 -- what a token stands for, unless it has a fault by itself
-abbrev pub value_of : {A : Type 0} → Result Token Kind → (Token → Result A Kind) → Result A Kind
-value_of (Ok token) stands_for = stands_for token
-value_of (Err kind) stands_for = Err kind
+abbrev pub token_value : {A : Type 0} → Result Token Kind → (Token → Result A Kind) → Result A Kind
+token_value (Ok token) stands_for = stands_for token
+token_value (Err kind) stands_for = Err kind
 
 -- a token that stands for this value; it must not be glued to the one before
 abbrev pub taken : {A : Type 0} → Lexeme → Result A Kind → List Lexeme → Result (A × List Lexeme) Misfit
@@ -35,7 +35,7 @@ taken one (Ok value) lexemes = if one.glued then Err (misfit BadToken one.left) 
 -- the field that the first token is, by what a token stands for; the line may not end here
 abbrev pub field_at : {A : Type 0} → (Token → Result A Kind) → List Lexeme → Result (A × List Lexeme) Misfit
 field_at stands_for [] = Err (misfit BadToken 0)
-field_at stands_for (one ∷ lexemes) = taken one (value_of one.token stands_for) lexemes
+field_at stands_for (one ∷ lexemes) = taken one (token_value one.token stands_for) lexemes
 
 -- a token where another kind, or none, is wanted
 abbrev pub unwanted : {A : Type 0} → Token → Result A Kind
@@ -48,7 +48,7 @@ leftover one (Ok value) = Ok value
 -- the end of the line, behind this value
 abbrev pub end_at : {A : Type 0} → A → List Lexeme → Result A Misfit
 end_at value [] = Ok value
-end_at value (one ∷ lexemes) = leftover one (value_of one.token unwanted)
+end_at value (one ∷ lexemes) = leftover one (token_value one.token unwanted)
 
 -- ---- what a token stands for
 
@@ -63,21 +63,21 @@ mark_in wanted (Mark mark) = if mark == wanted then Ok wanted else Err BadToken
 mark_in wanted other = Err BadToken
 
 -- `r0` to `r15`
-abbrev pub register_of : List ℕ → Option ℕ
-register_of (r ∷ d ∷ []) = if r == 114 && is_ascii_digit d then Some (d - 48) else None
-register_of (r ∷ one ∷ d ∷ []) = if r == 114 && one == 49 && is_ascii_digit d && nat_lt d 54 then Some (d - 38) else None
-register_of other = None
+abbrev pub named_register : List ℕ → Option ℕ
+named_register (r ∷ d ∷ []) = if r == 114 && is_ascii_digit d then Some (d - 48) else None
+named_register (r ∷ one ∷ d ∷ []) = if r == 114 && one == 49 && is_ascii_digit d && nat_lt d 54 then Some (d - 38) else None
+named_register other = None
 
 abbrev pub register_in : Token → Result ℕ Kind
-register_in (Name name) = known UnknownName (register_of name)
+register_in (Name name) = known UnknownName (named_register name)
 register_in other = Err BadToken
 
 -- `none`, `ro` or `rw`
-abbrev pub protection_of : List ℕ → Option Protection
-protection_of word = if bytes_eq word (codes "none") then Some Nothing else (if bytes_eq word (codes "ro") then Some ReadOnly else (if bytes_eq word (codes "rw") then Some ReadWrite else None))
+abbrev pub named_protection : List ℕ → Option Protection
+named_protection word = if bytes_eq word (codes "none") then Some Nothing else (if bytes_eq word (codes "ro") then Some ReadOnly else (if bytes_eq word (codes "rw") then Some ReadWrite else None))
 
 abbrev pub protection_in : Token → Result Protection Kind
-protection_in (Name name) = known UnknownName (protection_of name)
+protection_in (Name name) = known UnknownName (named_protection name)
 protection_in other = Err BadToken
 
 -- a number from low to high

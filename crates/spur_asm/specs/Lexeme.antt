@@ -4,7 +4,7 @@ use Rattle.std.specs.Char.{is_ascii_graphic}
 use Rattle.std.specs.List.{before_first, prefix_len, take_while}
 use Rattle.spur_asm.specs.Bytes.{is_blank, is_mark, is_name_byte, is_name_start, is_number_byte, is_number_start, is_semicolon}
 use Rattle.spur_asm.specs.Token.{Token, Name, Number, Mark}
-use Rattle.spur_asm.specs.Number.{number_of}
+use Rattle.spur_asm.specs.Number.{numeral_value}
 use Rattle.spur_asm.specs.declared.fault.Kind.{Kind}
 use Rattle.spur_asm.specs.declared.fault.Kind.TheVariants.{BadByte, BadToken, BadNumber}
 use Rattle.spur_asm.specs.declared.token.Token as seen
@@ -31,7 +31,7 @@ numbered (Some z) = Ok (Number z)
 abbrev pub token_at : ℕ → List ℕ → Result Token Kind
 token_at b bytes =
     if is_name_start b then named (b ∷ take_while is_name_byte bytes) else
-    (if is_number_start b then numbered (number_of (b ∷ take_while is_number_byte bytes)) else
+    (if is_number_start b then numbered (numeral_value (b ∷ take_while is_number_byte bytes)) else
     (if is_mark b then Ok (Mark b) else
     (if is_ascii_graphic b then Err BadToken else Err BadByte)))
 
@@ -76,6 +76,6 @@ abbrev pub lexeme_of : seen_lexemes.Lexeme → Lexeme
 lexeme_of l = record { token = token_in l.token; glued = l.glued; left = l.left }
 
 -- what a step over a line's tokens says: the first of them, and the rest; none where the line has ended
-abbrev pub Takes : Option seen_lexemes.Lexeme → List Lexeme → List Lexeme → Type 0
-Takes None before after = before ≡ []
-Takes (Some l) before after = before ≡ lexeme_of l ∷ after
+abbrev pub TakesLexeme : Option seen_lexemes.Lexeme → List Lexeme → List Lexeme → Type 0
+TakesLexeme None before after = before ≡ []
+TakesLexeme (Some l) before after = before ≡ lexeme_of l ∷ after

@@ -3,7 +3,7 @@ use Rattle.std.specs.Prelude.{ℕ, List, [], ◌∷◌, Option, Some, None, Resu
 use Rattle.spur_asm.specs.Token.{Token, Name}
 use Rattle.spur_asm.specs.Lexeme.{Lexeme, lexemes_of}
 use Rattle.spur_asm.specs.Names.{sort_named}
-use Rattle.spur_asm.specs.Context.{Placed, label_in, behind_label, label_fault, misplacement, immediate_of}
+use Rattle.spur_asm.specs.Context.{Placed, leading_label, behind_label, label_fault, misplacement, immediate_of}
 use Rattle.spur_asm.specs.Fields.{◌>>=◌, misfit}
 use Rattle.spur_asm.specs.Statements.{fields_at}
 use Rattle.spur_asm.specs.declared.fault.Kind.{Kind}
@@ -19,9 +19,9 @@ left_of [] = 0
 left_of (one ∷ lexemes) = one.left
 
 -- the fault with this many bytes left, if there is one, and else what follows
-abbrev pub unless : {A : Type 0} → Option Kind → ℕ → Result A Misfit → Result A Misfit
-unless None left rest = rest
-unless (Some kind) left rest = Err (misfit kind left)
+abbrev pub unless_fault : {A : Type 0} → Option Kind → ℕ → Result A Misfit → Result A Misfit
+unless_fault None left rest = rest
+unless_fault (Some kind) left rest = Err (misfit kind left)
 
 -- ---- the label at the head of a line
 
@@ -34,7 +34,7 @@ head_fault all c (Some name) = label_fault all c name
 -- a statement of this sort: whether it may stand here, and then its fields
 abbrev pub sorted_at : (List ℕ → Option ℤ) → Context → Option Sort → ℕ → List Lexeme → Result Statement Misfit
 sorted_at immediate c None left lexemes = Err (misfit UnknownName left)
-sorted_at immediate c (Some sort) left lexemes = unless (misplacement c sort) left (fields_at immediate sort lexemes)
+sorted_at immediate c (Some sort) left lexemes = unless_fault (misplacement c sort) left (fields_at immediate sort lexemes)
 
 -- the statement that begins with this token, which has to be a name
 abbrev pub begun_at : (List ℕ → Option ℤ) → Context → Result Token Kind → ℕ → List Lexeme → Result Statement Misfit
@@ -51,9 +51,9 @@ statement_at immediate c (one ∷ lexemes) = do
 
 -- ---- a line
 
-abbrev pub line_in : List Placed → Context → List Lexeme → Result (Option Statement) Misfit
-line_in all c lexemes = unless (head_fault all c (label_in lexemes)) (left_of lexemes) (statement_at (immediate_of all c) c (behind_label lexemes))
+abbrev pub statement_of_lexemes : List Placed → Context → List Lexeme → Result (Option Statement) Misfit
+statement_of_lexemes all c lexemes = unless_fault (head_fault all c (leading_label lexemes)) (left_of lexemes) (statement_at (immediate_of all c) c (behind_label lexemes))
 
 -- the statement of a line, if it has one
-unfoldable pub line_at : List Placed → Context → List ℕ → Result (Option Statement) Misfit
-line_at all c line = line_in all c (lexemes_of line)
+unfoldable pub statement_of_line : List Placed → Context → List ℕ → Result (Option Statement) Misfit
+statement_of_line all c line = statement_of_lexemes all c (lexemes_of line)

@@ -1,7 +1,7 @@
 -- Which units can be loaded so far: the parts fit together, and are few.
-use Rattle.std.specs.Prelude.{◌≡◌, ◌≢◌, ℕ, ◌*◌, ◌^◌, ◌<◌, ◌≤◌, Bool, true, not, ◌&&◌, ◌==◌, nat_lt, nat_le, List, [], ◌∷◌, length}
+use Rattle.std.specs.Prelude.{◌≡◌, ◌≢◌, ℕ, ◌<◌, ◌≤◌, Bool, true, not, ◌&&◌, ◌==◌, nat_lt, nat_le, List, [], ◌∷◌, length}
 use Rattle.std.specs.List.{All, Any, AllPairs, list_any, list_all}
-use Rattle.spur_addr.specs.Address.{page_of}
+use Rattle.spur_addr.specs.Address.{page_of, table_start, user_pages}
 use Rattle.spur_object.specs.declared.unit.BoardText.{BoardText}
 use Rattle.spur_object.specs.declared.unit.PageText.{PageText}
 use Rattle.spur_object.specs.declared.unit.WordText.{WordText}
@@ -12,8 +12,8 @@ use Rattle.spur_object.specs.declared.unit.Unit as units
 pub record IsLoadable (unit : units.Unit) : Type 0 where
   pub few_pages : length unit.pages ≤ 16
   pub once : AllPairs (λ p q. p.page ≢ q.page) unit.pages
-  pub pages_below : All (λ p. p.page < 255 * 2 ^ 18) unit.pages
-  pub words_below : All (λ w. w.at < 255 * 2 ^ 30) unit.words
+  pub pages_below : All (λ p. p.page < user_pages) unit.pages
+  pub words_below : All (λ w. w.at < table_start) unit.words
   pub segs_below : All (λ b. All (λ seg. seg ≢ 255) b.segs) unit.boards
   pub declared : All (λ w. Any (λ p. p.page ≡ page_of w.at) unit.pages) unit.words
 
@@ -30,7 +30,7 @@ all_differ (p ∷ pages) = not (has_page p.page pages) && all_differ pages
 
 -- whether no page is one of segment 255
 abbrev pub all_below : List PageText → Bool
-all_below pages = list_all (λ p. nat_lt p.page (255 * 2 ^ 18)) pages
+all_below pages = list_all (λ p. nat_lt p.page user_pages) pages
 
 -- whether the page of each word is declared
 abbrev pub all_declared : List PageText → List WordText → Bool

@@ -18,6 +18,6 @@ magnitude_of (c ∷ x ∷ ds) = if c == 48 && x == 120 then digits_of 16 8 ds el
 magnitude_of ds = digits_of 10 10 ds
 
 -- the number of an optional minus and a magnitude
-abbrev pub number_of : List ℕ → Option ℤ
-number_of [] = None
-number_of (c ∷ cs) = if c == 45 then option_map (λ n. neg_ℤ (pos n)) (magnitude_of cs) else option_map (λ n. pos n) (magnitude_of (c ∷ cs))
+abbrev pub numeral_value : List ℕ → Option ℤ
+numeral_value [] = None
+numeral_value (c ∷ cs) = if c == 45 then option_map (λ n. neg_ℤ (pos n)) (magnitude_of cs) else option_map (λ n. pos n) (magnitude_of (c ∷ cs))

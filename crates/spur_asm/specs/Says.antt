@@ -3,7 +3,7 @@ use Rattle.std.specs.Prelude.{◌≡◌, ◌≢◌, ◌⊎◌, ℕ, ◌≤◌, L
 use Rattle.std.specs.List.{All, AllZip, filter_map, flat_map}
 use Rattle.spur_object.specs.declared.unit.Unit as units
 use Rattle.spur_asm.specs.Item.{Item, Page, Word, Board, SpellsLine}
-use Rattle.spur_asm.specs.Section.{page_in, word_in, SaysBoard}
+use Rattle.spur_asm.specs.Section.{page_text_in, word_text_in, SaysBoard}
 use Rattle.spur_asm.specs.Loadable.{IsLoadable}
 
 -- ---- lines
@@ -57,8 +57,8 @@ pub record Says (text : List ℕ) (unit : units.Unit) : Type 0 where
   pub spelled : AllZip SpellsLine lines items
   pub has_sections : HasSections (flat_map (λ line. line) items) front parts
   pub boards : AllZip SaysBoard parts unit.boards
-  pub pages : unit.pages ≡ filter_map page_in (flat_map (λ line. line) items)
-  pub words : unit.words ≡ filter_map word_in (flat_map (λ line. line) items)
+  pub pages : unit.pages ≡ filter_map page_text_in (flat_map (λ line. line) items)
+  pub words : unit.words ≡ filter_map word_text_in (flat_map (λ line. line) items)
   pub some_board : 1 ≤ length unit.boards
   pub few_boards : length unit.boards ≤ 12
   pub few_words : length unit.words ≤ 65536

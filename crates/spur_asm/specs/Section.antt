@@ -16,14 +16,14 @@ abbrev pub low_word : ℤ → ℕ
 low_word z = unsigned_abs (int_rem_euclid z (pos (2 ^ 32)))
 
 -- a declared page: segment * 2 ^ 18 + page in the segment
-abbrev pub page_in : Item → Option PageText
-page_in (Page segment place prot) = Some (record { page = segment * 2 ^ 18 + place; prot = prot })
-page_in other = None
+abbrev pub page_text_in : Item → Option PageText
+page_text_in (Page segment place prot) = Some (record { page = segment * 2 ^ 18 + place; prot = prot })
+page_text_in other = None
 
 -- a word at segment * 2 ^ 30 + byte in the segment; its value is taken modulo 2 ^ 32
-abbrev pub word_in : Item → Option WordText
-word_in (Word segment offset value) = Some (record { at = segment * 2 ^ 30 + offset; value = low_word value })
-word_in other = None
+abbrev pub word_text_in : Item → Option WordText
+word_text_in (Word segment offset value) = Some (record { at = segment * 2 ^ 30 + offset; value = low_word value })
+word_text_in other = None
 
 abbrev pub segs_in : Item → Option (List ℕ)
 segs_in (Seg first second third fourth) = Some (first ∷ second ∷ third ∷ fourth ∷ [])

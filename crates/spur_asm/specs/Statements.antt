@@ -18,8 +18,8 @@ use Rattle.spur_asm.specs.declared.statement.Statement.TheVariants as statements
 -- ---- the directives
 
 -- `S P W`
-unfoldable pub page_at : List Lexeme → Result PageText Misfit
-page_at l0 = do
+unfoldable pub page_text_at : List Lexeme → Result PageText Misfit
+page_text_at l0 = do
   s ← natural_at 255 l0
   p ← natural_at 262143 s.1
   w ← protection_at p.1
@@ -144,47 +144,47 @@ one instr l0 = do
   Ok (instr a)
 
 -- the instruction of an operation, by its operands
-abbrev pub instr_at : (List ℕ → Option ℤ) → Operation → List Lexeme → Result Instr Misfit
-instr_at immediate_of operations.Halt l0 = end_at Halt l0
-instr_at immediate_of operations.Nop l0 = end_at Nop l0
-instr_at immediate_of operations.Li l0 = do
+abbrev pub operation_at : (List ℕ → Option ℤ) → Operation → List Lexeme → Result Instr Misfit
+operation_at immediate_of operations.Halt l0 = end_at Halt l0
+operation_at immediate_of operations.Nop l0 = end_at Nop l0
+operation_at immediate_of operations.Li l0 = do
   f ← li_at l0
   Ok (Li f.0 f.1)
-instr_at immediate_of operations.Lih l0 = do
+operation_at immediate_of operations.Lih l0 = do
   f ← lih_at l0
   Ok (Lih f.0 f.1)
-instr_at immediate_of operations.AddI l0 = do
+operation_at immediate_of operations.AddI l0 = do
   f ← addi_at l0
   Ok (AddI f.0 f.1 f.2)
-instr_at immediate_of operations.Add l0 = three (λ a b c. Add a b c) l0
-instr_at immediate_of operations.Sub l0 = three (λ a b c. Sub a b c) l0
-instr_at immediate_of operations.And l0 = three (λ a b c. And a b c) l0
-instr_at immediate_of operations.Or l0 = three (λ a b c. Or a b c) l0
-instr_at immediate_of operations.Xor l0 = three (λ a b c. Xor a b c) l0
-instr_at immediate_of operations.Shl l0 = three (λ a b c. Shl a b c) l0
-instr_at immediate_of operations.Shr l0 = three (λ a b c. Shr a b c) l0
-instr_at immediate_of operations.Slt l0 = three (λ a b c. Slt a b c) l0
-instr_at immediate_of operations.SltU l0 = three (λ a b c. SltU a b c) l0
-instr_at immediate_of operations.Ld l0 = access (λ a b i. Ld a b i) l0
-instr_at immediate_of operations.St l0 = access (λ a b i. St a b i) l0
-instr_at immediate_of operations.Tas l0 = access (λ a b i. Tas a b i) l0
-instr_at immediate_of operations.Beq l0 = branch (λ a b i. Beq a b i) immediate_of l0
-instr_at immediate_of operations.Bne l0 = branch (λ a b i. Bne a b i) immediate_of l0
-instr_at immediate_of operations.Blt l0 = branch (λ a b i. Blt a b i) immediate_of l0
-instr_at immediate_of operations.Bge l0 = branch (λ a b i. Bge a b i) immediate_of l0
-instr_at immediate_of operations.Jmp l0 = do
+operation_at immediate_of operations.Add l0 = three (λ a b c. Add a b c) l0
+operation_at immediate_of operations.Sub l0 = three (λ a b c. Sub a b c) l0
+operation_at immediate_of operations.And l0 = three (λ a b c. And a b c) l0
+operation_at immediate_of operations.Or l0 = three (λ a b c. Or a b c) l0
+operation_at immediate_of operations.Xor l0 = three (λ a b c. Xor a b c) l0
+operation_at immediate_of operations.Shl l0 = three (λ a b c. Shl a b c) l0
+operation_at immediate_of operations.Shr l0 = three (λ a b c. Shr a b c) l0
+operation_at immediate_of operations.Slt l0 = three (λ a b c. Slt a b c) l0
+operation_at immediate_of operations.SltU l0 = three (λ a b c. SltU a b c) l0
+operation_at immediate_of operations.Ld l0 = access (λ a b i. Ld a b i) l0
+operation_at immediate_of operations.St l0 = access (λ a b i. St a b i) l0
+operation_at immediate_of operations.Tas l0 = access (λ a b i. Tas a b i) l0
+operation_at immediate_of operations.Beq l0 = branch (λ a b i. Beq a b i) immediate_of l0
+operation_at immediate_of operations.Bne l0 = branch (λ a b i. Bne a b i) immediate_of l0
+operation_at immediate_of operations.Blt l0 = branch (λ a b i. Blt a b i) immediate_of l0
+operation_at immediate_of operations.Bge l0 = branch (λ a b i. Bge a b i) immediate_of l0
+operation_at immediate_of operations.Jmp l0 = do
   i ← jmp_at immediate_of l0
   Ok (Jmp i)
-instr_at immediate_of operations.Call l0 = do
+operation_at immediate_of operations.Call l0 = do
   f ← call_at immediate_of l0
   Ok (Call f.0 f.1)
-instr_at immediate_of operations.Jr l0 = one (λ a. Jr a) l0
-instr_at immediate_of operations.Show l0 = one (λ a. Show a) l0
+operation_at immediate_of operations.Jr l0 = one (λ a. Jr a) l0
+operation_at immediate_of operations.Show l0 = one (λ a. Show a) l0
 
 -- the statement of a sort, by its fields
 abbrev pub fields_at : (List ℕ → Option ℤ) → Sort → List Lexeme → Result Statement Misfit
 fields_at immediate_of sorts.Page l0 = do
-  p ← page_at l0
+  p ← page_text_at l0
   Ok (statements.Page p)
 fields_at immediate_of sorts.Word l0 = do
   w ← word_text_at l0
@@ -194,5 +194,5 @@ fields_at immediate_of sorts.Seg l0 = do
   s ← seg_at l0
   Ok (statements.Seg s)
 fields_at immediate_of (sorts.Code operation) l0 = do
-  i ← instr_at immediate_of operation l0
+  i ← operation_at immediate_of operation l0
   Ok (statements.Code i)

@@ -5,10 +5,10 @@ use Rattle.std.specs.Option.{is_some}
 use Rattle.spur_object.specs.declared.unit.Unit as units
 use Rattle.spur_asm.specs.Bytes.{is_feed}
 use Rattle.spur_asm.specs.Loadable.{is_loadable}
-use Rattle.spur_asm.specs.Context.{Placed, first_context, next_of, labels_from}
+use Rattle.spur_asm.specs.Context.{Placed, first_context, next_context, labels_from}
 use Rattle.spur_asm.specs.Fields.{◌>>=◌, misfit}
-use Rattle.spur_asm.specs.Line.{line_at}
-use Rattle.spur_asm.specs.Draft.{empty_draft, with_line, unit_in}
+use Rattle.spur_asm.specs.Line.{statement_of_line}
+use Rattle.spur_asm.specs.Draft.{empty_draft, with_line_statement, unit_in}
 use Rattle.spur_asm.specs.declared.draft.Draft.{Draft}
 use Rattle.spur_asm.specs.declared.fault.AsmFault.{AsmFault}
 use Rattle.spur_asm.specs.declared.fault.AsmFault.TheVariants as faults
@@ -29,8 +29,8 @@ draft_at_end d = if is_some d.begun then Ok d else Err (misfit NoBoard 0)
 abbrev pub draft_from : List Placed → Context → Draft → List (List ℕ) → Result Draft Misfit
 draft_from all c d [] = draft_at_end d
 draft_from all c d (line ∷ lines) = do
-  s ← line_at all c line
-  draft_from all (next_of c line) (with_line d s) lines
+  s ← statement_of_line all c line
+  draft_from all (next_context c line) (with_line_statement d s) lines
 
 -- the draft of lines, in the light of the labels of them all
 abbrev pub draft_in : List (List ℕ) → Result Draft Misfit
@@ -52,7 +52,7 @@ unfoldable pub unit_of : List ℕ → Option units.Unit
 unit_of text = unit_from (draft_in (lines_of text))
 
 -- the answer is the unit that is read, or that there is none; want of memory is free
-abbrev pub Gives : Result units.Unit AsmFault → Option units.Unit → Type 0
-Gives (Ok unit) read = read ≡ Some unit
-Gives (Err faults.NotYet) read = read ≡ None
-Gives (Err faults.NoMemory) read = Unit {0}
+abbrev pub GivesUnit : Result units.Unit AsmFault → Option units.Unit → Type 0
+GivesUnit (Ok unit) read = read ≡ Some unit
+GivesUnit (Err faults.NotYet) read = read ≡ None
+GivesUnit (Err faults.NoMemory) read = Unit {0}

@@ -4,7 +4,7 @@ ghost use Rattle.spur_asm.specs.Context.{first_context, placed_of};
 ghost use Rattle.spur_asm.specs.Draft.{empty_draft};
 ghost use Rattle.spur_asm.specs.Says.{Says};
 ghost use Rattle.spur_object.specs.declared.unit.Unit as units;
-ghost use Rattle.spur_asm.specs.Text.{draft_from, lines_of, unit_of, GivesDraft, Gives};
+ghost use Rattle.spur_asm.specs.Text.{draft_from, lines_of, unit_of, GivesDraft, GivesUnit};
 
 use crate::draft::Draft;
 use crate::fault::AsmFault;
@@ -38,7 +38,7 @@ fn draft_of(alloc: Global, labels: &[Label<'_>], text: &[u8]) -> Result<Draft, A
 /// The unit of a text, as the definitions read it.
 #[tactic(auto, unfolding(crate::specs::Text::unit_of))]
 fn read(alloc: Global, text: &[u8]) -> Result<Unit, AsmFault>
-    ensures exact { Gives result (unit_of text.now) }
+    ensures exact { GivesUnit result (unit_of text.now) }
 {
     let labels = lines::labels(alloc, text)?;
     let draft = draft_of(alloc, labels.as_slice(), text)?;

@@ -3,7 +3,7 @@
 ghost use Rattle.std.specs.Prelude.{◌≡◌, ◌&&◌, ◌==◌};
 ghost use Rattle.std.specs.List.{before_first, position};
 ghost use Rattle.spur_asm.specs.Bytes.{is_semicolon};
-ghost use Rattle.spur_asm.specs.Lexeme.{lexemes_of, Takes};
+ghost use Rattle.spur_asm.specs.Lexeme.{lexemes_of, TakesLexeme};
 
 use crate::fault::Kind;
 use crate::token::Lexeme;
@@ -75,7 +75,7 @@ impl<'a> Cursor<'a> {
 
     /// Takes the next token. `None` at the end of the line.
     pub fn next(&mut self) -> Option<Lexeme<'a>>
-        ensures { Takes result self.old self.new }
+        ensures { TakesLexeme result self.old self.new }
     {
         let skipped = bytes::blanks(self.rest);
         let (_, bytes) = self.rest.split_at(skipped);

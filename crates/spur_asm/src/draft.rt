@@ -17,7 +17,7 @@ pub struct Draft {
 }
 
 impl Draft {
-    ghost use Rattle.spur_asm.specs.Draft.{empty_draft, unit_in, with_line, with_statement};
+    ghost use Rattle.spur_asm.specs.Draft.{empty_draft, unit_in, with_line_statement, with_statement};
 
     /// Before the first line, which takes no memory yet.
     pub fn new(alloc: Global) -> Draft
@@ -73,7 +73,7 @@ impl Draft {
         alloc: Global,
         statement: Option<Statement>,
     ) -> Result<(), AllocError>
-        ensures { OnOk result (self.new ≡ with_line self.old statement) }
+        ensures { OnOk result (self.new ≡ with_line_statement self.old statement) }
     {
         match statement {
             Some(statement) => self.add(alloc, statement),

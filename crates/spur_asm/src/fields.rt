@@ -4,7 +4,7 @@ ghost use Rattle.std.specs.Prelude.{◌≡◌, ◌≤ℤ◌, ◌≤◌, IfOk, Li
 ghost use Rattle.spur_asm.specs.Context.{immediate_of, placed_of};
 ghost use Rattle.spur_asm.specs.Lexeme as specs;
 ghost use Rattle.spur_asm.specs.Lexeme.{lexeme_of, token_in};
-ghost use Rattle.spur_asm.specs.Fields.{end_at, immediate_at, label_at, label_in, mark_at, misfit, natural_at, number_at, offset_at, protection_at, register_at, taken, value_of, Passes, Reads};
+ghost use Rattle.spur_asm.specs.Fields.{end_at, immediate_at, label_at, label_in, mark_at, misfit, natural_at, number_at, offset_at, protection_at, register_at, taken, token_value, Passes, Reads};
 
 use crate::cursor::Cursor;
 use crate::fault::{Kind, Misfit};
@@ -152,7 +152,7 @@ fn led_to(
     labels: &[Label<'_>],
     context: Context,
 ) -> Result<i16, Kind>
-    ensures { result ≡ value_of (token_in token.entry) (label_in (immediate_of (map placed_of labels.now) context)) }
+    ensures { result ≡ token_value (token_in token.entry) (label_in (immediate_of (map placed_of labels.now) context)) }
 {
     match token? {
         Token::Name(name) => context.immediate(labels, name).ok_or(Kind::NoLabel),

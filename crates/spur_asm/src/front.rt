@@ -2,7 +2,7 @@
 ghost use Rattle.std.specs.Prelude.{◌≡◌};
 ghost use Rattle.spur_asm.specs.Lexeme.{begins_word, named, numbered, token_in};
 ghost use Rattle.spur_asm.specs.Front.{behind_front, front_token, single};
-ghost use Rattle.spur_asm.specs.Number.{number_of};
+ghost use Rattle.spur_asm.specs.Number.{numeral_value};
 
 use crate::fault::Kind;
 use crate::token::Token;
@@ -28,7 +28,7 @@ fn name(text: &[u8]) -> Result<Token<'_>, Kind>
 
 /// The number that this text is. `BadNumber` where it is not well formed.
 fn number(text: &[u8]) -> Result<Token<'_>, Kind>
-    ensures { token_in result ≡ numbered (number_of text.now) }
+    ensures { token_in result ≡ numbered (numeral_value text.now) }
 {
     match numbers::number(text) {
         Some(value) => Ok(Token::Number(value)),

@@ -3,8 +3,8 @@ ghost use Rattle.std.specs.Prelude.{◌≡◌};
 ghost use Rattle.std.specs.Option.{option_copied};
 ghost use Rattle.spur_asm.specs.Token.{is_dotted};
 ghost use Rattle.spur_asm.specs.Lexeme.{lexemes_of, token_in};
-ghost use Rattle.spur_asm.specs.Context.{behind_label, label_in, label_of_two, sort_in};
-ghost use Rattle.spur_asm.specs.Fields.{misfit, value_of};
+ghost use Rattle.spur_asm.specs.Context.{behind_label, label_of_two, leading_label, sort_in};
+ghost use Rattle.spur_asm.specs.Fields.{misfit, token_value};
 ghost use Rattle.spur_asm.specs.Line.{left_of};
 ghost use Rattle.spur_asm.specs.Step.{sort_of_name};
 
@@ -41,7 +41,7 @@ fn label_of_two<'a>(
 /// The sort of the statements that begin with this token. `BadToken` where it is no name, `UnknownName` where no
 /// statement has this name.
 pub fn sort(token: Result<Token<'_>, Kind>) -> Result<Sort, Kind>
-    ensures { result ≡ value_of (token_in token.entry) sort_of_name }
+    ensures { result ≡ token_value (token_in token.entry) sort_of_name }
 {
     match token? {
         Token::Name(name) => Sort::named(name).ok_or(Kind::UnknownName),
@@ -52,7 +52,7 @@ pub fn sort(token: Result<Token<'_>, Kind>) -> Result<Sort, Kind>
 impl<'a> Cursor<'a> {
     /// Takes the label with which the line begins, whatever follows it. `None` where it begins with none.
     pub fn label_at_head(&mut self) -> Option<&'a [u8]>
-        ensures label { option_copied result ≡ label_in self.old }
+        ensures label { option_copied result ≡ leading_label self.old }
         ensures rest { self.new ≡ behind_label self.old }
     {
         let mut ahead = self.again();
@@ -86,7 +86,7 @@ impl<'a> Cursor<'a> {
 
 /// The label of a line and the sort of its statement, whatever stands behind them.
 pub fn head(line: &[u8]) -> (Option<&[u8]>, Option<Sort>)
-    ensures label { option_copied result.0 ≡ label_in (lexemes_of line.now) }
+    ensures label { option_copied result.0 ≡ leading_label (lexemes_of line.now) }
     ensures sort { result.1 ≡ sort_in (behind_label (lexemes_of line.now)) }
 {
     let mut cursor = Cursor::new(line);

@@ -49,7 +49,7 @@ fn begun(
 /// The statement of a line that stands in this context, if it has one, and the context of the line behind it. `labels`
 /// are those of all lines, in their order. A label that may not stand here has its fault at the line's first token,
 /// before all that follows.
-#[tactic(auto, unfolding(crate::specs::Line::line_at))]
+#[tactic(auto, unfolding(crate::specs::Line::statement_of_line))]
 pub fn step(
     labels: &[Label<'_>],
     context: Context,

@@ -1,6 +1,6 @@
 //! Numbers as they are written.
 ghost use Rattle.std.specs.Prelude.{◌≡◌, ◌^◌, ◌<◌, ◌≤◌, IfSome};
-ghost use Rattle.spur_asm.specs.Number.{digits_of, magnitude_of, number_of};
+ghost use Rattle.spur_asm.specs.Number.{digits_of, magnitude_of, numeral_value};
 ghost use Rattle.spur_asm.specs.Section.{low_word};
 
 /// The number that 1 to `most` digits of this radix write; letters of either case stand for 10 and above, and the
@@ -37,7 +37,7 @@ fn magnitude(text: &[u8]) -> Option<u64>
 /// The number that an optional minus and a magnitude write, as this project spells numbers. `None` where the text is
 /// no such number.
 pub fn number(text: &[u8]) -> Option<i64>
-    ensures { result ≡ number_of text.now }
+    ensures { result ≡ numeral_value text.now }
 {
     match text {
         [b'-', rest @ ..] => {

@@ -1,7 +1,7 @@
 //! What a token stands for where a statement wants it.
 ghost use Rattle.std.specs.Prelude.{◌≡◌, ◌≤ℤ◌, ◌≤◌, IfOk, Ok, Err, ℤ, pos};
 ghost use Rattle.spur_asm.specs.Lexeme.{token_in};
-ghost use Rattle.spur_asm.specs.Fields.{mark_in, natural_in, number_in, offset_in, protection_in, protection_of, register_in, register_of, value_of};
+ghost use Rattle.spur_asm.specs.Fields.{mark_in, named_protection, named_register, natural_in, number_in, offset_in, protection_in, register_in, token_value};
 
 use crate::fault::Kind;
 use crate::token::Token;
@@ -10,7 +10,7 @@ use spur_isa::Reg;
 
 /// The mark `wanted`. `BadToken` where the token is another one.
 pub fn mark(token: Result<Token<'_>, Kind>, wanted: u8) -> Result<u8, Kind>
-    ensures { result ≡ value_of (token_in token.entry) (mark_in wanted) }
+    ensures { result ≡ token_value (token_in token.entry) (mark_in wanted) }
 {
     match token? {
         Token::Mark(mark) if mark == wanted => Ok(wanted),
@@ -20,7 +20,7 @@ pub fn mark(token: Result<Token<'_>, Kind>, wanted: u8) -> Result<u8, Kind>
 
 /// The register with this name, `r0` to `r15`. `None` for any other name.
 fn register_named(name: &[u8]) -> Option<Reg>
-    ensures { result ≡ register_of name.now }
+    ensures { result ≡ named_register name.now }
 {
     match name {
         [b'r', d] if d.is_ascii_digit() => Reg::of(*d - b'0'),
@@ -31,7 +31,7 @@ fn register_named(name: &[u8]) -> Option<Reg>
 
 /// A register, `r0` to `r15`. `BadToken` where the token is no name, `UnknownName` where it is another one.
 pub fn register(token: Result<Token<'_>, Kind>) -> Result<Reg, Kind>
-    ensures { result ≡ value_of (token_in token.entry) register_in }
+    ensures { result ≡ token_value (token_in token.entry) register_in }
 {
     match token? {
         Token::Name(name) => register_named(name).ok_or(Kind::UnknownName),
@@ -41,7 +41,7 @@ pub fn register(token: Result<Token<'_>, Kind>) -> Result<Reg, Kind>
 
 /// The protection with this name: `none`, `ro` or `rw`. `None` for any other name.
 fn protection_named(name: &[u8]) -> Option<Protection>
-    ensures { result ≡ protection_of name.now }
+    ensures { result ≡ named_protection name.now }
 {
     if name == b"none".as_slice() {
         Some(Protection::Nothing)
@@ -56,7 +56,7 @@ fn protection_named(name: &[u8]) -> Option<Protection>
 
 /// A protection, `none`, `ro` or `rw`. `BadToken` where the token is no name, `UnknownName` where it is another one.
 pub fn protection(token: Result<Token<'_>, Kind>) -> Result<Protection, Kind>
-    ensures { result ≡ value_of (token_in token.entry) protection_in }
+    ensures { result ≡ token_value (token_in token.entry) protection_in }
 {
     match token? {
         Token::Name(name) => protection_named(name).ok_or(Kind::UnknownName),
@@ -66,7 +66,7 @@ pub fn protection(token: Result<Token<'_>, Kind>) -> Result<Protection, Kind>
 
 /// A number from `low` to `high`. `BadToken` where the token is no number, `BadNumber` where it is another one.
 pub fn number(token: Result<Token<'_>, Kind>, low: i64, high: i64) -> Result<i64, Kind>
-    ensures value { result ≡ value_of (token_in token.entry) (number_in low high) }
+    ensures value { result ≡ token_value (token_in token.entry) (number_in low high) }
     ensures range { IfOk result (λ z. (low ≤ℤ z) × (z ≤ℤ high)) }
 {
     match token? {
@@ -78,7 +78,7 @@ pub fn number(token: Result<Token<'_>, Kind>, low: i64, high: i64) -> Result<i64
 
 /// A number from 0 to `high`. `BadToken` where the token is no number, `BadNumber` where it is another one.
 pub fn natural(token: Result<Token<'_>, Kind>, high: u32) -> Result<u32, Kind>
-    ensures value { result ≡ value_of (token_in token.entry) (natural_in high) }
+    ensures value { result ≡ token_value (token_in token.entry) (natural_in high) }
     ensures range { IfOk result (λ n. n ≤ high) }
 {
     let z = number(token, 0, i64::from(high))?;
@@ -87,7 +87,7 @@ pub fn natural(token: Result<Token<'_>, Kind>, high: u32) -> Result<u32, Kind>
 
 /// A multiple of 4 from 0 to `high`. `BadToken` where the token is no number, `BadNumber` where it is another one.
 pub fn offset(token: Result<Token<'_>, Kind>, high: u32) -> Result<u32, Kind>
-    ensures value { result ≡ value_of (token_in token.entry) (offset_in high) }
+    ensures value { result ≡ token_value (token_in token.entry) (offset_in high) }
     ensures range { IfOk result (λ n. n ≤ high) }
 {
     let n = natural(token, high)?;

@@ -1,7 +1,7 @@
 //! The statements, each by its fields, which stand behind its name.
 ghost use Rattle.std.specs.Prelude.{◌≡◌, map};
 ghost use Rattle.spur_asm.specs.Context.{immediate_of, placed_of};
-ghost use Rattle.spur_asm.specs.Statements.{access_at, addi_at, branch_at, call_at, fields_at, instr_at, jmp_at, li_at, lih_at, one_at, page_at, seg_at, three_at, word_text_at};
+ghost use Rattle.spur_asm.specs.Statements.{access_at, addi_at, branch_at, call_at, fields_at, jmp_at, li_at, lih_at, one_at, operation_at, page_text_at, seg_at, three_at, word_text_at};
 
 use crate::cursor::Cursor;
 use crate::fault::Misfit;
@@ -13,9 +13,9 @@ use spur_isa::{Instr, Reg};
 use spur_object::{PageText, WordText};
 
 /// The fields `S P W` of `.page`: a segment from 0 to 255, a page of it from 0 to 262143, and a protection.
-#[tactic(auto, unfolding(crate::specs::Statements::page_at))]
+#[tactic(auto, unfolding(crate::specs::Statements::page_text_at))]
 fn page(line: &mut Cursor<'_>) -> Result<PageText, Misfit>
-    ensures { result ≡ page_at line.old }
+    ensures { result ≡ page_text_at line.old }
 {
     let segment = line.natural(255)?;
     let place = line.natural(262143)?;
@@ -170,7 +170,7 @@ fn instr(
     operation: Operation,
     line: &mut Cursor<'_>,
 ) -> Result<Instr, Misfit>
-    ensures { result ≡ instr_at (immediate_of (map placed_of labels.now) context) operation line.old }
+    ensures { result ≡ operation_at (immediate_of (map placed_of labels.now) context) operation line.old }
 {
     match operation {
         Operation::Halt => line.end(Instr::Halt),

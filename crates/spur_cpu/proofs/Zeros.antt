@@ -11,8 +11,8 @@ use Rattle.spur_cpu.specs.declared.cpu.Answer.{Answer}
 use Rattle.spur_cpu.specs.declared.cpu.Answer.TheVariants.{Done, Faulted}
 use Rattle.spur_flat.specs.declared.entry.Entry.{Entry}
 use Rattle.spur_flat.specs.declared.entry.Entry.TheVariants.{Load, Store, Tas as TasEntry, Fault}
-use Rattle.spur_cpu.specs.Registers.{loaded, register_of, written}
-use Rattle.spur_cpu.specs.Plain.{Plain, plain, opened, stepped, instr_of, next_step, plain_local, plain_answer}
+use Rattle.spur_cpu.specs.Registers.{loaded, register_of, with_register}
+use Rattle.spur_cpu.specs.Plain.{Plain, plain, opened, after_step, instr_of, next_step, plain_local, plain_answer}
 use Rattle.spur_cpu.specs.After.{Stop, Course, begun, carry_want, wants_local, retire}
 use Rattle.spur_cpu.specs.ZeroRegister.{IsSixteen, ZeroStays}
 use Rattle.spur_cpu.proofs.Afters.{after_keeps}
@@ -22,11 +22,11 @@ kept_at : (xs : List ℕ) (a value : ℕ) → register_of (slice_set xs (suc a) 
 kept_at [] a value = refl
 kept_at (x ∷ xs) a value = refl
 
-zero_written : (xs : List ℕ) (a value : ℕ) → IsSixteen xs → IsSixteen (written xs a value)
+zero_written : (xs : List ℕ) (a value : ℕ) → IsSixteen xs → IsSixteen (with_register xs a value)
 zero_written xs zero value h = h
 zero_written xs (suc a) value h =
     let off : (suc a == 0) ≡ false = (let n : suc a ≢ 0 = (λ q. omega arith) in ne_eqb (suc a) 0 n) in
-    let is : written xs (suc a) value ≡ slice_set xs (suc a) value = ap (λ (b : Bool). if b then xs else slice_set xs (suc a) value) off in
+    let is : with_register xs (suc a) value ≡ slice_set xs (suc a) value = ap (λ (b : Bool). if b then xs else slice_set xs (suc a) value) off in
     subst IsSixteen (sym is) record { sixteen = length-set _ _ _ ∙ h.sixteen; zero = kept_at xs a value ∙ h.zero }
 
 zero_loaded : (i : Instr) (xs : List ℕ) (value : ℕ) → IsSixteen xs → IsSixteen (loaded i xs value)
@@ -34,7 +34,7 @@ zero_loaded (Ld a b i) xs value h = zero_written xs a value h
 zero_loaded (Tas a b i) xs value h = zero_written xs a value h
 zero_loaded other xs value h = h
 
-zero_stepped : (s : Plain) (step : Step) → IsSixteen s.registers → IsSixteen (stepped s step).registers
+zero_stepped : (s : Plain) (step : Step) → IsSixteen s.registers → IsSixteen (after_step s step).registers
 zero_stepped s (Writes a value to) h = zero_written s.registers a value h
 zero_stepped s (Goes to) h = h
 zero_stepped s (Shows value) h = h

@@ -10,8 +10,8 @@ use Rattle.spur_cpu.specs.declared.cpu.Want.TheVariants.{Local, Access, Ended}
 use Rattle.spur_cpu.specs.declared.cpu.Answer.{Answer}
 use Rattle.spur_cpu.specs.declared.cpu.Answer.TheVariants.{Done, Faulted}
 use Rattle.spur_cpu.specs.Meaning.{Meaning}
-use Rattle.spur_cpu.specs.Registers.{loaded, register_of, written, zeros}
-use Rattle.spur_cpu.specs.Steps.{access_of, next_of, step_of}
+use Rattle.spur_cpu.specs.Registers.{loaded, register_of, with_register, zeros}
+use Rattle.spur_cpu.specs.Steps.{instr_step, next_of, reach_of}
 
 -- its program, its registers, the place of its next instruction, what it has shown, and whether it has ended
 pub record Plain : Type 0 where
@@ -31,17 +31,17 @@ instr_of s = or_halt (slice_get s.code s.place)
 
 -- what the next instruction does besides its access
 abbrev pub next_step : Plain → Step
-next_step s = step_of (instr_of s) s.registers s.place
+next_step s = instr_step (instr_of s) s.registers s.place
 
-abbrev pub stepped : Plain → Step → Plain
-stepped s (Writes a value to) = record s { registers = written s.registers a value; place = to }
-stepped s (Goes to) = record s { place = to }
-stepped s (Shows value) = record s { shown = s.shown ++ value ∷ []; place = next_of s.place }
-stepped s Ends = record s { ended = true }
+abbrev pub after_step : Plain → Step → Plain
+after_step s (Writes a value to) = record s { registers = with_register s.registers a value; place = to }
+after_step s (Goes to) = record s { place = to }
+after_step s (Shows value) = record s { shown = s.shown ++ value ∷ []; place = next_of s.place }
+after_step s Ends = record s { ended = true }
 
 -- the state after a local instruction
 abbrev pub plain_local : Plain → Plain
-plain_local s = stepped s (next_step s)
+plain_local s = after_step s (next_step s)
 
 abbrev pub is_showing : Step → Bool
 is_showing (Writes a value to) = false
@@ -58,7 +58,7 @@ wants_in true reach = Ended
 wants_in false reach = want_for reach
 
 abbrev pub plain_wants : Plain → Want
-plain_wants s = wants_in s.ended (access_of (instr_of s) s.registers)
+plain_wants s = wants_in s.ended (reach_of (instr_of s) s.registers)
 
 -- an access that is done goes on to the next place; an ending fault changes no register
 abbrev pub plain_answer : Plain → Answer → Plain

@@ -4,7 +4,7 @@ use Rattle.spur_cpu.specs.declared.step.Reach.{Reach}
 use Rattle.spur_cpu.specs.declared.cpu.Want.TheVariants.{Ended}
 use Rattle.spur_cpu.specs.declared.cpu.Answer.TheVariants.{Done}
 use Rattle.spur_cpu.specs.Meaning.{WantsAccess, IsLawful}
-use Rattle.spur_cpu.specs.Steps.{access_of}
+use Rattle.spur_cpu.specs.Steps.{reach_of}
 use Rattle.spur_cpu.specs.Plain.{instr_of, plain, plain_answer, want_for, wants_in}
 
 not_ended : (reach : Option Reach) → want_for reach ≢ Ended
@@ -18,5 +18,5 @@ done_in false first second h = not_ended second
 pub plain_is_lawful : IsLawful plain
 plain_is_lawful = record {
   faulted = λ s kind. refl;
-  done = λ s value h. done_in s.ended (access_of (instr_of s) s.registers) (access_of (instr_of (plain_answer s (Done value))) (plain_answer s (Done value)).registers) h;
+  done = λ s value h. done_in s.ended (reach_of (instr_of s) s.registers) (reach_of (instr_of (plain_answer s (Done value))) (plain_answer s (Done value)).registers) h;
 }

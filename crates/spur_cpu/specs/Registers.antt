@@ -12,11 +12,11 @@ abbrev pub register_of : List ℕ → ℕ → ℕ
 register_of registers a = slice_index registers a
 
 -- the registers after a write; one to register 0 is dropped
-abbrev pub written : List ℕ → ℕ → ℕ → List ℕ
-written registers a value = if a == 0 then registers else slice_set registers a value
+abbrev pub with_register : List ℕ → ℕ → ℕ → List ℕ
+with_register registers a value = if a == 0 then registers else slice_set registers a value
 
 -- the registers after an access that is done: a load and a test-and-set put the word that they read into their register
 abbrev pub loaded : Instr → List ℕ → ℕ → List ℕ
-loaded (Ld a b i) registers value = written registers a value
-loaded (Tas a b i) registers value = written registers a value
+loaded (Ld a b i) registers value = with_register registers a value
+loaded (Tas a b i) registers value = with_register registers a value
 loaded other registers value = registers

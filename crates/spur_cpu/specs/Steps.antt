@@ -18,8 +18,8 @@ abbrev pub target_of : ℕ → ℤ → ℕ
 target_of place i = (next_of place + cast_unsigned w32 i) % 2 ^ 32
 
 -- a register and a signed number, added: the process address of an access, too
-abbrev pub address_of : List ℕ → ℕ → ℤ → ℕ
-address_of registers b i = (register_of registers b + cast_unsigned w32 i) % 2 ^ 32
+abbrev pub register_plus : List ℕ → ℕ → ℤ → ℕ
+register_plus registers b i = (register_of registers b + cast_unsigned w32 i) % 2 ^ 32
 
 -- whether a word is less than another, both as signed numbers
 abbrev pub is_less : ℕ → ℕ → Bool
@@ -37,36 +37,36 @@ abbrev pub branch_of : Bool → ℕ → ℤ → Step
 branch_of holds place i = if holds then Goes (target_of place i) else Goes (next_of place)
 
 -- what an instruction at a place does besides its access; one with an access goes on to the next place
-abbrev pub step_of : Instr → List ℕ → ℕ → Step
-step_of Halt r place = Ends
-step_of Nop r place = Goes (next_of place)
-step_of (Li a i) r place = sets_of a (cast_unsigned w32 i) place
-step_of (Lih a u) r place = sets_of a (register_of r a % 65536 + u * 65536) place
-step_of (AddI a b i) r place = sets_of a (address_of r b i) place
-step_of (Add a b c) r place = sets_of a ((register_of r b + register_of r c) % 2 ^ 32) place
-step_of (Sub a b c) r place = sets_of a ((register_of r b + (2 ^ 32 - register_of r c)) % 2 ^ 32) place
-step_of (And a b c) r place = sets_of a (bit_and (register_of r b) (register_of r c)) place
-step_of (Or a b c) r place = sets_of a (bit_or (register_of r b) (register_of r c)) place
-step_of (Xor a b c) r place = sets_of a (bit_xor (register_of r b) (register_of r c)) place
-step_of (Shl a b c) r place = sets_of a (register_of r b * 2 ^ (register_of r c % 32) % 2 ^ 32) place
-step_of (Shr a b c) r place = sets_of a (register_of r b / 2 ^ (register_of r c % 32)) place
-step_of (Slt a b c) r place = sets_of a (one_if (is_less (register_of r b) (register_of r c))) place
-step_of (SltU a b c) r place = sets_of a (one_if (nat_lt (register_of r b) (register_of r c))) place
-step_of (Ld a b i) r place = Goes (next_of place)
-step_of (St a b i) r place = Goes (next_of place)
-step_of (Tas a b i) r place = Goes (next_of place)
-step_of (Beq a b i) r place = branch_of (register_of r a == register_of r b) place i
-step_of (Bne a b i) r place = branch_of (not (register_of r a == register_of r b)) place i
-step_of (Blt a b i) r place = branch_of (is_less (register_of r a) (register_of r b)) place i
-step_of (Bge a b i) r place = branch_of (not (is_less (register_of r a) (register_of r b))) place i
-step_of (Jmp i) r place = Goes (target_of place i)
-step_of (Call a i) r place = Writes a (next_of place) (target_of place i)
-step_of (Jr a) r place = Goes (register_of r a)
-step_of (Show a) r place = Shows (register_of r a)
+abbrev pub instr_step : Instr → List ℕ → ℕ → Step
+instr_step Halt r place = Ends
+instr_step Nop r place = Goes (next_of place)
+instr_step (Li a i) r place = sets_of a (cast_unsigned w32 i) place
+instr_step (Lih a u) r place = sets_of a (register_of r a % 65536 + u * 65536) place
+instr_step (AddI a b i) r place = sets_of a (register_plus r b i) place
+instr_step (Add a b c) r place = sets_of a ((register_of r b + register_of r c) % 2 ^ 32) place
+instr_step (Sub a b c) r place = sets_of a ((register_of r b + (2 ^ 32 - register_of r c)) % 2 ^ 32) place
+instr_step (And a b c) r place = sets_of a (bit_and (register_of r b) (register_of r c)) place
+instr_step (Or a b c) r place = sets_of a (bit_or (register_of r b) (register_of r c)) place
+instr_step (Xor a b c) r place = sets_of a (bit_xor (register_of r b) (register_of r c)) place
+instr_step (Shl a b c) r place = sets_of a (register_of r b * 2 ^ (register_of r c % 32) % 2 ^ 32) place
+instr_step (Shr a b c) r place = sets_of a (register_of r b / 2 ^ (register_of r c % 32)) place
+instr_step (Slt a b c) r place = sets_of a (one_if (is_less (register_of r b) (register_of r c))) place
+instr_step (SltU a b c) r place = sets_of a (one_if (nat_lt (register_of r b) (register_of r c))) place
+instr_step (Ld a b i) r place = Goes (next_of place)
+instr_step (St a b i) r place = Goes (next_of place)
+instr_step (Tas a b i) r place = Goes (next_of place)
+instr_step (Beq a b i) r place = branch_of (register_of r a == register_of r b) place i
+instr_step (Bne a b i) r place = branch_of (not (register_of r a == register_of r b)) place i
+instr_step (Blt a b i) r place = branch_of (is_less (register_of r a) (register_of r b)) place i
+instr_step (Bge a b i) r place = branch_of (not (is_less (register_of r a) (register_of r b))) place i
+instr_step (Jmp i) r place = Goes (target_of place i)
+instr_step (Call a i) r place = Writes a (next_of place) (target_of place i)
+instr_step (Jr a) r place = Goes (register_of r a)
+instr_step (Show a) r place = Shows (register_of r a)
 
 -- the access that an instruction wants: its kind, its process address, and the word that it writes, 0 for a load
-abbrev pub access_of : Instr → List ℕ → Option Reach
-access_of (Ld a b i) r = Some record { kind = access.Load; va = address_of r b i; value = 0 }
-access_of (St a b i) r = Some record { kind = access.Store; va = address_of r b i; value = register_of r a }
-access_of (Tas a b i) r = Some record { kind = access.Tas; va = address_of r b i; value = 1 }
-access_of other r = None
+abbrev pub reach_of : Instr → List ℕ → Option Reach
+reach_of (Ld a b i) r = Some record { kind = access.Load; va = register_plus r b i; value = 0 }
+reach_of (St a b i) r = Some record { kind = access.Store; va = register_plus r b i; value = register_of r a }
+reach_of (Tas a b i) r = Some record { kind = access.Tas; va = register_plus r b i; value = 1 }
+reach_of other r = None

@@ -6,7 +6,7 @@ ghost use Rattle.spur_cpu.specs.PlainCpus.{plain_of, room_of};
 
 use crate::cpu::{Answer, Cpu, Want};
 use crate::registers::Registers;
-use crate::step::{Step, access_of, next, step_of};
+use crate::step::{Step, instr_step, next, reach_of};
 use spur_isa::{Instr, Reg};
 use spur_list::Items;
 use std::alloc::{AllocError, Global};
@@ -86,7 +86,7 @@ impl Cpu for PlainCpu {
         if self.ended {
             return Want::Ended;
         }
-        match access_of(instr_at(self.code.as_slice(), self.place), &self.registers) {
+        match reach_of(instr_at(self.code.as_slice(), self.place), &self.registers) {
             None => Want::Local,
             Some(reach) => Want::Access {
                 kind: reach.kind,
@@ -98,7 +98,7 @@ impl Cpu for PlainCpu {
 
     fn local(&mut self) {
         let instr = instr_at(self.code.as_slice(), self.place);
-        match step_of(instr, &self.registers, self.place) {
+        match instr_step(instr, &self.registers, self.place) {
             Step::Writes { a, value, to } => {
                 self.registers.write(a, value);
                 self.place = to;

@@ -2,7 +2,7 @@
 
 ghost use Rattle.std.specs.Prelude.{◌≡◌, [], ◌∷◌};
 ghost use Rattle.std.specs.Int.{cast_signed, w32};
-ghost use Rattle.spur_cpu.specs.Registers.{loaded, register_of, written, zeros};
+ghost use Rattle.spur_cpu.specs.Registers.{loaded, register_of, with_register, zeros};
 
 use spur_isa::{Instr, Reg};
 use std::marker::Model;
@@ -47,7 +47,7 @@ impl Registers {
 
     /// Writes a register. A write to register 0 is dropped.
     pub fn write(&mut self, reg: Reg, value: u32)
-        ensures { self.new ≡ written self.old reg value }
+        ensures { self.new ≡ with_register self.old reg value }
     {
         let number = reg.number();
         if number != 0 {

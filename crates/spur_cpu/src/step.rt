@@ -1,7 +1,7 @@
 //! What one instruction does: the table of the instructions. Arithmetic is modulo 2^32.
 
 ghost use Rattle.std.specs.Prelude.{◌≡◌};
-ghost use Rattle.spur_cpu.specs.Steps.{access_of, address_of, branch_of, next_of, sets_of, step_of, target_of};
+ghost use Rattle.spur_cpu.specs.Steps.{branch_of, instr_step, next_of, reach_of, register_plus, sets_of, target_of};
 
 use crate::registers::Registers;
 use spur_flat::AccessKind;
@@ -45,7 +45,7 @@ fn target(place: u32, i: i16) -> u32
 
 /// A register and a signed number, added: the process address of an access, too.
 fn address(registers: &Registers, b: Reg, i: i16) -> u32
-    ensures { result ≡ address_of registers.now b i }
+    ensures { result ≡ register_plus registers.now b i }
 {
     registers.word(b).wrapping_add_signed(i32::from(i))
 }
@@ -75,8 +75,8 @@ fn branch(holds: bool, place: u32, i: i16) -> Step
 }
 
 /// What an instruction at a place does besides its access. One with an access goes on to the next place.
-pub fn step_of(instr: Instr, r: &Registers, place: u32) -> Step
-    ensures { result ≡ step_of instr r.now place }
+pub fn instr_step(instr: Instr, r: &Registers, place: u32) -> Step
+    ensures { result ≡ instr_step instr r.now place }
 {
     match instr {
         Instr::Halt => Step::Ends,
@@ -113,8 +113,8 @@ pub fn step_of(instr: Instr, r: &Registers, place: u32) -> Step
 }
 
 /// The access that an instruction wants, if it wants one.
-pub fn access_of(instr: Instr, registers: &Registers) -> Option<Reach>
-    ensures { result ≡ access_of instr registers.now }
+pub fn reach_of(instr: Instr, registers: &Registers) -> Option<Reach>
+    ensures { result ≡ reach_of instr registers.now }
 {
     match instr {
         Instr::Ld { b, i, .. } => Some(Reach {

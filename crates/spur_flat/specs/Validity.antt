@@ -1,12 +1,13 @@
 -- Which flat states are valid.
 use Rattle.std.specs.Prelude.{ℕ, ◌≡◌, ◌+◌, ◌*◌, ◌^◌, ◌<◌, ◌≤◌, true, not, ◌||◌, List, length, slice_index, Some, IsTrue}
+use Rattle.spur_addr.specs.Address.{user_pages}
 use Rattle.spur_addr.specs.PageEntry.{is_valid, is_on_swap, is_leaving, is_readable, number_of}
 use Rattle.spur_flat.specs.declared.flat.Flat.{Flat}
 use Rattle.spur_flat.specs.Table.{entry_at, table_words}
 
 -- the declared page numbers differ, and are below segment 255
 pub record ArePages (pages : List ℕ) : Type 0 where
-  pub small : (i : ℕ) → i < length pages → slice_index pages i < 255 * 2 ^ 18
+  pub small : (i : ℕ) → i < length pages → slice_index pages i < user_pages
   pub differ : (i j : ℕ) → i < length pages → j < length pages → slice_index pages i ≡ slice_index pages j → i ≡ j
 
 -- page p is declared, at a position of the list

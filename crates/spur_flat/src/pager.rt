@@ -97,7 +97,7 @@ impl Flat {
         self.judge(at, entry, may_page_in(entry), 4)?;
         held(self.is_free(frame), 5, frame as u64)?;
         self.load_page(at, frame);
-        self.set_entry(at, Pte::resident(frame, entry.protection()));
+        self.set_entry(at, entry.brought_in(frame));
         Ok(())
     }
 

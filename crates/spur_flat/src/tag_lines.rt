@@ -5,12 +5,10 @@ ghost use Rattle.spur_flat.specs.TagLines.{IsOfBlock, tag_in_state, tag_index, s
 ghost use Rattle.spur_flat.specs.TagRules.{holds_page};
 
 use crate::tag::Tag;
+use spur_addr::PAGE_BLOCKS;
 use spur_snoop::{BlockState, BusKind, snooped};
 use std::alloc::{AllocError, Global};
 use std::marker::Model;
-
-/// The blocks of a page.
-const PAGE_BLOCKS: u64 = 128;
 
 /// The tags of one board's lines, at least one.
 ///
@@ -85,8 +83,8 @@ impl TagLines {
     {
         // each tag is on its block's line, so no other line has a block of the page
         let _ = &self.lines;
-        for j in 0..PAGE_BLOCKS {
-            if self.tag(page as u64 * PAGE_BLOCKS + j).is_some() {
+        for j in 0..PAGE_BLOCKS as u64 {
+            if self.tag(page as u64 * PAGE_BLOCKS as u64 + j).is_some() {
                 return true;
             }
         }

@@ -18,11 +18,8 @@ use crate::entry::Layer;
 use crate::flat::Flat;
 use crate::illegal::{Clause, Illegal};
 use crate::tag::Tag;
-use spur_addr::{GlobalAddr, Protection, Pte};
+use spur_addr::{GlobalAddr, Protection, Pte, TABLE_START};
 use spur_snoop::{BlockState, BusKind, Need};
-
-/// The first address of the page table: the start of segment 255.
-const TABLE_START: u64 = 255 << 30;
 
 /// The first address of the root, which is in the page table.
 const ROOT_START: u64 = TABLE_START + (255 << 20);

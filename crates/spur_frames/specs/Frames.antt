@@ -98,11 +98,11 @@ abbrev pub take_frame : Frames → ℕ → ℕ → ℕ → Frames
 take_frame frames frame page slot = record frames { held = slice_set frames.held (frame - frames.first) (Some (page, slot)) }
 
 -- the leaving frame, but none where it is this one
-abbrev pub unless : Option ℕ → ℕ → Option ℕ
-unless None frame = None
-unless (Some other) frame = if other == frame then None else Some other
+abbrev pub other_than : Option ℕ → ℕ → Option ℕ
+other_than None frame = None
+other_than (Some other) frame = if other == frame then None else Some other
 
 -- a frame that is free again and leaving no more, and all else as it is
 abbrev pub release_frame : Frames → ℕ → Frames
 release_frame frames frame =
-    record frames { held = slice_set frames.held (frame - frames.first) None; leaving = unless frames.leaving frame }
+    record frames { held = slice_set frames.held (frame - frames.first) None; leaving = other_than frames.leaving frame }

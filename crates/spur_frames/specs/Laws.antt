@@ -109,11 +109,11 @@ TurnGoesOn = (start : Frames) (first : ℕ → Bool) (cleared : List ℕ) (frame
     → IsUnderWay start first (cleared ++ page_of_frame frames frame ∷ []) (passed frames) later
 
 -- a turn that ends with the page of a frame
-pub record IsAtEnd (start : Frames) (first : ℕ → Bool) (cleared : List ℕ) (frames : Frames) (frame : ℕ) : Type 0 where
+pub record IsTurnEnd (start : Frames) (first : ℕ → Bool) (cleared : List ℕ) (frames : Frames) (frame : ℕ) : Type 0 where
   pub turn : clock start first ≡ record { cleared = cleared; leaves = Some (record { frame = frame; page = page_of_frame frames frame }); hand = (passed frames).hand }
   pub moved : passed frames ≡ record start { hand = (clock start first).hand }
 
 -- it ends where the page that the hand finds has its bit clear
 abbrev pub TurnEnds : Type 0
 TurnEnds = (start : Frames) (first : ℕ → Bool) (cleared : List ℕ) (frames : Frames) (bits : ℕ → Bool) (frame : ℕ) → IsUnderWay start first cleared frames bits
-    → looked_at frames ≡ Some frame → bits (page_of_frame frames frame) ≡ false → IsAtEnd start first cleared frames frame
+    → looked_at frames ≡ Some frame → bits (page_of_frame frames frame) ≡ false → IsTurnEnd start first cleared frames frame

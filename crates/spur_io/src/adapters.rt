@@ -43,7 +43,8 @@ impl<R: Read> Source for SourceStd<R> {
         ensures cause { HasCause (read_faults self.old) (read_faults self.new) result }
 
         ensures counted { read_faults self.new ≡ counted (read_faults self.old) result }
-        ensures reader { ReadConsumes (R.remaining (reader_of self.old)) (R.remaining (reader_of self.new)) result into.new }
+        ensures reader { ReadConsumes (R.remaining (reader_of self.old)) (R.remaining (reader_of self.new)) result
+            into.new }
     {
         match self.reader.read(into) {
             Ok(n) => Ok(n),
@@ -89,7 +90,8 @@ impl<W: Write> Sink for SinkStd<W> {
         ensures cause { HasCause (write_faults self.old) (write_faults self.new) result }
 
         ensures counted { write_faults self.new ≡ counted (write_faults self.old) result }
-        ensures writer { WriteAppends (W.contents (writer_of self.old)) (W.contents (writer_of self.new)) result piece.now }
+        ensures writer { WriteAppends (W.contents (writer_of self.old)) (W.contents (writer_of self.new)) result
+            piece.now }
     {
         match self.writer.write(piece) {
             Ok(n) if n > 0 || piece.is_empty() => Ok(n),

@@ -5,7 +5,7 @@ use Rattle.std.specs.Int.{w16, cast_signed}
 use Rattle.spur_isa.specs.declared.instr.Instr.{Instr}
 use Rattle.spur_isa.specs.declared.instr.Instr.TheVariants.{Halt, Nop, Li, Lih, AddI, Add, Sub, And, Or, Xor, Shl, Shr, Slt, SltU, Ld, St, Tas, Beq, Bne, Blt, Bge, Jmp, Call, Jr, Show}
 use Rattle.spur_isa.specs.Ranges.{IsInstr, IsReg, IsSigned16, IsUnsigned16}
-use Rattle.spur_isa.specs.Word.{Parts, parts, parts_at, joined, word_of, instr_at, low_of, third, third_at, unsigned_at, signed_at}
+use Rattle.spur_isa.specs.Word.{Parts, parts, parts_at, parts_word, instr_word, instr_at, low_of, third, third_at, unsigned_at, signed_at}
 
 -- a number in the range of an `i16` fits it, in std's words
 pub fits : (i : ℤ) → IsSigned16 i → FitsSigned w16 i
@@ -13,7 +13,7 @@ fits (pos n) h = grind (arith, ints, h.least, h.most)
 fits (negsuc n) h = grind (arith, ints, h.least, h.most)
 
 -- a word that was joined has the parts that it was joined from
-parts_again : (operation a b low : ℕ) → a < 16 → b < 16 → low < 2 ^ 18 → parts_at (joined (parts operation a b low)) ≡ parts operation a b low
+parts_again : (operation a b low : ℕ) → a < 16 → b < 16 → low < 2 ^ 18 → parts_at (parts_word (parts operation a b low)) ≡ parts operation a b low
 parts_again operation a b low a_below b_below low_below =
     let word = operation * 2 ^ 26 + a * 2 ^ 22 + b * 2 ^ 18 + low in
     let operation_again : word / 2 ^ 26 ≡ operation = omega arith in
@@ -40,17 +40,17 @@ third_again : (c : ℕ) → third_at (third c) ≡ c
 third_again c = omega arith
 
 -- a reading of the parts of a word with three registers gets them all
-of_registers : (operation a b c : ℕ) → IsReg a × IsReg b × IsReg c → (make : ℕ → Instr) → (read : Parts → Option Instr) → read (parts operation a b (third c)) ≡ Some (make (third_at (third c))) → read (parts_at (joined (parts operation a b (third c)))) ≡ Some (make c)
+of_registers : (operation a b c : ℕ) → IsReg a × IsReg b × IsReg c → (make : ℕ → Instr) → (read : Parts → Option Instr) → read (parts operation a b (third c)) ≡ Some (make (third_at (third c))) → read (parts_at (parts_word (parts operation a b (third c)))) ≡ Some (make c)
 of_registers operation a b c h make read is =
     ap read (parts_again operation a b (third c) h.0 h.1 (let below = h.2 in omega arith)) ∙ is ∙ ap (λ (n : ℕ). Some (make n)) (third_again c)
 
 -- a reading of the parts of a word with two registers and a signed immediate gets them all
-of_signed : (operation a b : ℕ) (i : ℤ) → IsReg a × IsReg b × IsSigned16 i → (make : ℤ → Instr) → (read : Parts → Option Instr) → read (parts operation a b (low_of i)) ≡ Some (make (signed_at (low_of i))) → read (parts_at (joined (parts operation a b (low_of i)))) ≡ Some (make i)
+of_signed : (operation a b : ℕ) (i : ℤ) → IsReg a × IsReg b × IsSigned16 i → (make : ℤ → Instr) → (read : Parts → Option Instr) → read (parts operation a b (low_of i)) ≡ Some (make (signed_at (low_of i))) → read (parts_at (parts_word (parts operation a b (low_of i)))) ≡ Some (make i)
 of_signed operation a b i h make read is =
     ap read (parts_again operation a b (low_of i) h.0 h.1 (let below = low_below i h.2 in omega arith)) ∙ is ∙ ap (λ (n : ℤ). Some (make n)) (signed_again i h.2)
 
 -- a reading of the parts of a word with one register gets it
-of_one : (operation a : ℕ) → IsReg a → (made : Instr) → (read : Parts → Option Instr) → read (parts operation a 0 0) ≡ Some made → read (parts_at (joined (parts operation a 0 0))) ≡ Some made
+of_one : (operation a : ℕ) → IsReg a → (made : Instr) → (read : Parts → Option Instr) → read (parts operation a 0 0) ≡ Some made → read (parts_at (parts_word (parts operation a 0 0))) ≡ Some made
 of_one operation a h made read is = ap read (parts_again operation a 0 0 h (omega arith) (omega arith)) ∙ is
 
 -- register 0 is a register
@@ -58,7 +58,7 @@ zero_is : IsReg 0
 zero_is = omega arith
 
 -- an instruction is read again from the parts of its word
-pub instr_again : (i : Instr) → IsInstr i → instr_at (parts_at (word_of i)) ≡ Some i
+pub instr_again : (i : Instr) → IsInstr i → instr_at (parts_at (instr_word i)) ≡ Some i
 instr_again Halt h = of_one 1 0 zero_is Halt instr_at refl
 instr_again Nop h = of_one 2 0 zero_is Nop instr_at refl
 instr_again (Li a i) h = of_signed 3 a 0 i (h.0, zero_is, h.1) (λ n. Li a n) instr_at refl

@@ -51,12 +51,12 @@ parts_of (Jr a) = parts 24 a 0 0
 parts_of (Show a) = parts 25 a 0 0
 
 -- the word that has these parts
-abbrev pub joined : Parts → ℕ
-joined p = p.operation * 2 ^ 26 + p.a * 2 ^ 22 + p.b * 2 ^ 18 + p.low
+abbrev pub parts_word : Parts → ℕ
+parts_word p = p.operation * 2 ^ 26 + p.a * 2 ^ 22 + p.b * 2 ^ 18 + p.low
 
 -- the word of an instruction
-abbrev pub word_of : Instr → ℕ
-word_of instr = joined (parts_of instr)
+abbrev pub instr_word : Instr → ℕ
+instr_word instr = parts_word (parts_of instr)
 
 -- the parts of a word
 abbrev pub parts_at : ℕ → Parts

@@ -7,7 +7,7 @@
 ghost use Rattle.std.specs.Prelude.{◌≡◌, ◌+◌, ◌*◌, ◌^◌, ◌%◌, ◌<◌, Ok, IfOk, OnErr, IfErr};
 ghost use Rattle.spur_isa.specs.declared.instr.Instr.{Instr};
 ghost use Rattle.spur_isa.specs.Ranges.{IsInstr, IsReg};
-ghost use Rattle.spur_isa.specs.Word.{instr_at, parts_at, word_of};
+ghost use Rattle.spur_isa.specs.Word.{instr_at, instr_word, parts_at};
 
 use crate::instr::Instr;
 use crate::reg::Reg;
@@ -22,8 +22,8 @@ pub struct BadWord(pub u32);
 ///
 /// A signed immediate stands there modulo 2^16. `decode` takes the word back.
 pub fn encode(instr: &Instr) -> u32
-    ensures value { result ≡ word_of instr.now }
-    ensures small { word_of instr.now < 2 ^ 32 }
+    ensures value { result ≡ instr_word instr.now }
+    ensures small { instr_word instr.now < 2 ^ 32 }
     ensures ranges { IsInstr instr.now }
 {
     let zero = Reg::ZERO;
@@ -62,11 +62,11 @@ pub fn encode(instr: &Instr) -> u32
 /// where its operation has none of the numbers from 1 to 25, or where a bit is set that its
 /// operation does not use.
 pub fn decode(word: u32) -> Result<Instr, BadWord>
-    ensures found { IfOk result (λ i. word ≡ word_of i) }
+    ensures found { IfOk result (λ i. word ≡ instr_word i) }
     ensures ranges { IfOk result IsInstr }
     // what was encoded is read again as it was
-    ensures again { (i : Instr) → IsInstr i → word ≡ word_of i → result ≡ Ok i }
-    ensures only { OnErr result ((i : Instr) → IsInstr i → word ≡ word_of i → ⊥) }
+    ensures again { (i : Instr) → IsInstr i → word ≡ instr_word i → result ≡ Ok i }
+    ensures only { OnErr result ((i : Instr) → IsInstr i → word ≡ instr_word i → ⊥) }
     ensures bad { IfErr result (λ e. e.0 ≡ word) }
 {
     match candidate(word) {
@@ -77,7 +77,7 @@ pub fn decode(word: u32) -> Result<Instr, BadWord>
 
 /// No two instructions have one word.
 pub fn one_instruction()
-    ensures { (i j : Instr) → IsInstr i → IsInstr j → word_of i ≡ word_of j → i ≡ j }
+    ensures { (i j : Instr) → IsInstr i → IsInstr j → instr_word i ≡ instr_word j → i ≡ j }
 {}
 
 /// The word of an operation with up to three registers. Register 0 stands for one that is not used.

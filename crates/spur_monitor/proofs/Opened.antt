@@ -6,7 +6,7 @@ use Rattle.spur_object.specs.declared.unit.BoardText.{BoardText}
 use Rattle.spur_cpu.specs.declared.plain.PlainCpu.{PlainCpu}
 use Rattle.spur_cpu.specs.declared.cpu.Want.TheVariants.{Ended}
 use Rattle.spur_cpu.specs.declared.step.Reach.{Reach}
-use Rattle.spur_cpu.specs.Steps.{access_of}
+use Rattle.spur_cpu.specs.Steps.{reach_of}
 use Rattle.spur_cpu.specs.Plain.{Plain, instr_of, opened, plain, want_for}
 use Rattle.spur_cpu.specs.PlainCpus.{plain_of, room_of}
 use Rattle.spur_monitor.specs.declared.board.Board.{Board}
@@ -51,7 +51,7 @@ begun_fresh budget i text b some is =
       budget = is.budget;
       going = record {
         not_ended = is.not_ended;
-        running = λ w. not_ended (access_of (instr_of (opened text.code)) (opened text.code).registers) (sym (ap (λ (s : Plain). plain.wants s) is.state) ∙ w);
+        running = λ w. not_ended (reach_of (instr_of (opened text.code)) (opened text.code).registers) (sym (ap (λ (s : Plain). plain.wants s) is.state) ∙ w);
         left = omega arith;
         room = omega arith;
       };

@@ -6,7 +6,7 @@ use Rattle.spur_monitor.specs.declared.words.Flag.{Flag}
 use Rattle.spur_monitor.specs.declared.words.Flag.TheVariants.{Budget}
 use Rattle.spur_monitor.specs.declared.words.Given.{Given}
 use Rattle.spur_monitor.specs.declared.words.Options.{Options}
-use Rattle.spur_monitor.specs.Words.{flag_of, flags_from, given_count, if_new, if_within, new_flag, nothing, number_of, options_by, options_of, or_offends, range_of, value_of, with_value}
+use Rattle.spur_monitor.specs.Words.{decimal_of, flag_of, flags_from, given_count, if_new, if_within, new_flag, nothing, options_by, options_of, or_offends, range_of, value_of, with_value}
 use Rattle.spur_cpu.proofs.Led.{passed}
 
 -- a flag and its value are read, and the flags behind them are left
@@ -63,7 +63,7 @@ flags_some number given (word ∷ []) options fine is =
 flags_some number given (word ∷ value ∷ more) options fine is =
     let flag = said_by (new_flag given word) number (λ f. or_offends (value_of f value) (number + 1) (λ v. flags_from (number + 2) (with_value given f v) more)) options is in
     let said = said_by (value_of flag.0 value) (number + 1) (λ v. flags_from (number + 2) (with_value given flag.0 v) more) options flag.2 in
-    flags_some (number + 2) (with_value given flag.0 said.0) more options (value_some flag.0 given (number_of value) said.0 said.1 fine) said.2
+    flags_some (number + 2) (with_value given flag.0 said.0) more options (value_some flag.0 given (decimal_of value) said.0 said.1 fine) said.2
 
 run_some : (is_run : Bool) (flags : List (List ℕ)) (options : Options) → (if is_run then flags_from 2 nothing flags else Err 1) ≡ Ok options → 0 < options.budget
 run_some true flags options is = flags_some 2 nothing flags options tt is

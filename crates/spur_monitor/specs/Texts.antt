@@ -56,12 +56,12 @@ ending_line number board =
     codes "board " ++ decimal number ++ codes " " ++ ending_text board.ending ++ codes " retired " ++ decimal board.retired ++ feed
 
 -- a register, behind a space
-abbrev pub register_text : ℕ → List ℕ
-register_text word = codes " " ++ word_digits word
+abbrev pub spaced_register : ℕ → List ℕ
+spaced_register word = codes " " ++ word_digits word
 
 -- the line with a board's registers, from register 0 on
 abbrev pub registers_line : ℕ → List ℕ → List ℕ
-registers_line number registers = codes "regs " ++ decimal number ++ flat_map register_text registers ++ feed
+registers_line number registers = codes "regs " ++ decimal number ++ flat_map spaced_register registers ++ feed
 
 -- the line with a value that a board showed
 abbrev pub shown_line : ℕ → ℕ → List ℕ

@@ -13,13 +13,13 @@ abbrev pub texts : List (String Global) → List (List ℕ)
 texts words = map string_bytes words
 
 -- the number that these digits write behind those of n, if they are digits
-abbrev pub digits_after : ℕ → List ℕ → Option ℕ
-digits_after n [] = Some n
-digits_after n (c ∷ cs) = if is_ascii_digit c then digits_after (n * 10 + (c - 48)) cs else None
+abbrev pub decimal_after : ℕ → List ℕ → Option ℕ
+decimal_after n [] = Some n
+decimal_after n (c ∷ cs) = if is_ascii_digit c then decimal_after (n * 10 + (c - 48)) cs else None
 
 -- the number of 1 to 20 decimal digits, of which the first may be zeros
-abbrev pub number_of : List ℕ → Option ℕ
-number_of word = if nat_lt 0 (length word) && nat_le (length word) 20 then digits_after 0 word else None
+abbrev pub decimal_of : List ℕ → Option ℕ
+decimal_of word = if nat_lt 0 (length word) && nat_le (length word) 20 then decimal_after 0 word else None
 
 -- ---- the table: a line for each flag, with its name, the least and the most of its value, and its default
 
@@ -68,7 +68,7 @@ if_within range n = if nat_le range.0 n && nat_le n range.1 then Some n else Non
 
 -- the value that a word gives to a flag
 abbrev pub value_of : Flag → List ℕ → Option ℕ
-value_of flag word = option_and_then (if_within (range_of flag)) (number_of word)
+value_of flag word = option_and_then (if_within (range_of flag)) (decimal_of word)
 
 -- what a word says, where it says something; else the word offends, by its number
 abbrev pub or_offends : {A B : Type 0} → Option A → ℕ → (A → Result B ℕ) → Result B ℕ

@@ -4,7 +4,7 @@ ghost use Rattle.std.specs.Prelude.{◌≡◌, ◌%◌, ◌++◌, IfOk, OnOk};
 ghost use Rattle.std.specs.List.{flat_map};
 ghost use Rattle.std.specs.Char.{digit_char};
 ghost use Rattle.std.specs.Fmt.{decimal};
-ghost use Rattle.spur_monitor.specs.Texts.{address_digits, board_text, ending_line, ending_text, fault_text, fault_word, not_yet_line, register_text, registers_line, report_text, shown_line, too_long_line, word_digits, words_line};
+ghost use Rattle.spur_monitor.specs.Texts.{address_digits, board_text, ending_line, ending_text, fault_text, fault_word, not_yet_line, registers_line, report_text, shown_line, spaced_register, too_long_line, word_digits, words_line};
 
 use crate::report::{BoardReport, Ending, Report};
 use spur_addr::GlobalAddr;
@@ -120,7 +120,7 @@ fn put_registers_line(
 
 /// Writes registers, each behind a space.
 fn put_registers(out: &mut Vec<u8>, registers: &[u32]) -> Result<(), AllocError>
-    ensures { OnOk result (out.new.items ≡ out.old.items ++ flat_map register_text registers.now) }
+    ensures { OnOk result (out.new.items ≡ out.old.items ++ flat_map spaced_register registers.now) }
 {
     for word in registers {
         put(out, b" ")?;

@@ -3,7 +3,7 @@
 //! The table has one command, `run`, and one flag of it, `--budget N`. It is this project's own.
 
 ghost use Rattle.std.specs.Prelude.{◌≡◌, ◌^◌, ◌<◌, ◌≤◌, IfSome};
-ghost use Rattle.spur_monitor.specs.Words.{flag_of, flags_from, new_flag, nothing, number_of, options_by, options_of, range_of, texts, value_of, with_value};
+ghost use Rattle.spur_monitor.specs.Words.{decimal_of, flag_of, flags_from, new_flag, nothing, options_by, options_of, range_of, texts, value_of, with_value};
 
 /// The most decimal digits of a number.
 const MOST_DIGITS: usize = 20;
@@ -29,8 +29,8 @@ struct Given {
 }
 
 /// The number that 1 to 20 decimal digits write; the first may be zeros. `None` where the text is none of these.
-fn number_of(text: &[u8]) -> Option<u128>
-    ensures value { result ≡ number_of text.now }
+fn decimal_of(text: &[u8]) -> Option<u128>
+    ensures value { result ≡ decimal_of text.now }
     ensures below { IfSome result (λ n. n < 10 ^ 20) }
 {
     if text.is_empty() || text.len() > MOST_DIGITS {
@@ -70,7 +70,7 @@ impl Flag {
     fn value(self, word: &str) -> Option<u32>
         ensures { result ≡ value_of self word.now }
     {
-        let number = number_of(word.as_bytes())?;
+        let number = decimal_of(word.as_bytes())?;
         let (least, most) = self.range();
         if u128::from(least) <= number && number <= u128::from(most) {
             Some(number as u32)

@@ -18,7 +18,7 @@ use Rattle.spur_bus.proofs.WordsFacts.{length-logical}
 use Rattle.spur_frames.specs.Frames.{AreFrames, Frames, take_frame}
 use Rattle.spur_swap.specs.Told.{IsTold}
 use Rattle.spur_walk.specs.Present.{ArePresent, MayWalk}
-use Rattle.spur_walk.specs.Tables.{HasTablesOf, logical_flat, root_at}
+use Rattle.spur_walk.specs.Tables.{HasTablesOf, flat_of_words, logical_flat, root_at}
 use Rattle.spur_walk.proofs.StepFacts.{same_flat}
 use Rattle.spur_pager.specs.declared.change.Change.TheVariants.{In}
 use Rattle.spur_pager.specs.View.{View}
@@ -168,7 +168,7 @@ module _ (w : View) (b frame page slot : ℕ) (may : MayComeIn w b frame page sl
   pub root : (rest : Flat) → Stands rest w → is_valid (root_at (logical_flat w.caches now) g) ≡ true
   root rest st =
       let a = is_above (standing_flat rest w) w.frames frame page words long (may_take rest st) in
-      ap (λ (ws : List ℕ). is_valid (root_at (record { words = ws; swap = []; pages = []; tables = 0; frames = 0 }) g)) (words_now rest st) ∙ a.place.valid
+      ap (λ (ws : List ℕ). is_valid (root_at (flat_of_words ws) g)) (words_now rest st) ∙ a.place.valid
 
   unheld : (rest : Flat) → Stands rest w → IsUnheld from g
   unheld rest st = absent_unheld from g (present rest st) (ap (λ (e : ℕ). is_valid e) ((same rest st).entry g user) ∙ may.absent)

@@ -1,5 +1,5 @@
 -- A page is put into a frame that no entry names: the tables are as they were, and what the walk needs is there again.
-use Rattle.std.proofs.Common.{◌≡◌, ◌≢◌, ◌∙◌, ℕ, ◌+◌, ◌*◌, ◌/◌, ◌%◌, ◌^◌, ◌<◌, ◌≤◌, ◌⊎◌, inl, inr, ⊎_elim, true, ap, sym, subst, List, [], length, slice_index, Option, Some, arith}
+use Rattle.std.proofs.Common.{◌≡◌, ◌≢◌, ◌∙◌, ℕ, ◌+◌, ◌*◌, ◌/◌, ◌%◌, ◌^◌, ◌<◌, ◌≤◌, ◌⊎◌, inl, inr, ⊎_elim, true, ap, sym, subst, List, length, slice_index, Option, Some, arith}
 use Rattle.std.proofs.lemmas.Bool.{cases_lt}
 use Rattle.std.proofs.lemmas.List.{ext_get_or}
 use Rattle.spur_addr.specs.Address.{page_of, root_start, table_start}
@@ -18,7 +18,7 @@ use Rattle.spur_bus.specs.Boards.{line_in}
 use Rattle.spur_bus.specs.Logical.{logical_at, logical_word, logical_words}
 use Rattle.spur_bus.proofs.WordsFacts.{length-logical, logical_index}
 use Rattle.spur_walk.specs.Present.{ArePresent, MayWalk}
-use Rattle.spur_walk.specs.Tables.{HasTables, HasTablesOf, OfPage, OfRoot, OfTable, StandsIn, block_address, logical_flat, user_roots}
+use Rattle.spur_walk.specs.Tables.{HasTables, HasTablesOf, OfPage, OfRoot, OfTable, StandsIn, block_address, flat_of_words, logical_flat, user_roots}
 use Rattle.spur_walk.proofs.FrameFacts.{root_small}
 use Rattle.spur_walk.proofs.ValidFacts.{tables_alone}
 use Rattle.spur_pager.proofs.EntryFacts.{small_user}
@@ -194,7 +194,7 @@ pub entries_put : (rest : Flat) (caches : List (List (Option Line))) (memory : L
 entries_put rest caches memory frame words may now =
     let F : Flat = record rest { words = logical_words caches memory } in
     let L : Flat = logical_flat caches memory in
-    subst (λ (ws : List ℕ). HasEntries L (record { words = ws; swap = []; pages = []; tables = 0; frames = 0 })) (sym now) (record {
+    subst (λ (ws : List ℕ). HasEntries L (flat_of_words ws)) (sym now) (record {
       root = λ (r : ℕ) (small : r < 2 ^ 16). root_kept F frame words may r small;
       entry = λ (at : ℕ) (user : at < table_start). entry_kept F frame words may at (small_user at user);
     })
@@ -216,7 +216,7 @@ walks_put rest caches memory frame words walk spare may =
         words = λ (i s k : ℕ) (line : Line) (there : line_in caches i s ≡ Some line) (at : IsAt k line).
             walk.serves.words i s k line there at ∙ sym (outside_word caches memory frame words bare p k (away k frame line.frame at.frame (bare.none i s line there)));
       };
-      tables = subst (λ (ws : List ℕ). HasTables (record { words = ws; swap = []; pages = []; tables = 0; frames = 0 })) (sym now) (tables_alone rest (with_page (logical_words caches memory) frame words) (valid_put F frame words may));
+      tables = subst (λ (ws : List ℕ). HasTables (flat_of_words ws)) (sym now) (tables_alone rest (with_page (logical_words caches memory) frame words) (valid_put F frame words may));
       mapped = λ (i s : ℕ) (line : Line) (there : line_in caches i s ≡ Some line). stands_same (logical_flat caches memory) (logical_flat caches new) line.tag line.frame same (walk.mapped i s line there);
     }
   where

@@ -24,7 +24,7 @@ use Rattle.spur_pager.specs.Acts.{Hold, clear_referenced, leave}
 use Rattle.spur_walk.proofs.OpenedFacts.{small_length}
 use Rattle.spur_pager.specs.Marks.{IsMark}
 use Rattle.spur_pager.specs.Runs.{Runs}
-use Rattle.spur_pager.specs.Looks.{Clears, KeepsAbsent, Leaves, Looks, KeepsDirty}
+use Rattle.spur_pager.specs.Looks.{Clears, KeepsAbsent, StartsLeaving, Looks, KeepsDirty}
 use Rattle.spur_pager.proofs.EntryFacts.{IsAbove, above, entries, framed_marked, held_still, holds_still, page_again, page_user, steady, valid_declared}
 use Rattle.spur_pager.proofs.LineFacts.{changes_lines}
 use Rattle.spur_pager.proofs.MarkFacts.{leaving_marks, referenced_marks, same_bit}
@@ -234,7 +234,7 @@ module _ (w : View) (b frame page slot : ℕ) (within : b < length w.caches) (f 
         found = f.looked;
         taken = f.taken;
         room = room_used b g (hold_of w) (hold_of v) (past_of w) (past_of v) (clock_change (hold_entry (hold_of w) g)) c;
-        looked = Leaves (bit_is h.small ∙ unreferenced) (subst (λ (p : ℕ). Runs b (leave b p ∷ []) w v) (sym page_is) run) frames;
+        looked = StartsLeaving (bit_is h.small ∙ unreferenced) (subst (λ (p : ℕ). Runs b (leave b p ∷ []) w v) (sym page_is) run) frames;
         absent = absent_stays v some (changed_word Leaving (word_of F g)) st (flat_is w v b g Leaving (leave_may some st) store framed change some);
         dirty = dirty_stays v some (changed_word Leaving (word_of F g)) st (flat_is w v b g Leaving (leave_may some st) store framed change some) (same_bit (word_of F g) 6 2 true (λ h. cc));
         lines = changes_lines b g Leaving w v (past_of w) (past_of v) change st.walk;

@@ -7,7 +7,7 @@ use Rattle.spur_addr.specs.Address.{page_of, page_address, user_pages}
 use Rattle.spur_addr.specs.PageEntry.{is_leaving, is_valid, number_of}
 use Rattle.spur_flat.specs.declared.flat.Flat.{Flat}
 use Rattle.spur_flat.specs.Pager.{position_in, word_of}
-use Rattle.spur_frames.specs.Frames.{Frames, IsFrame, holder_of, release_frame, unless}
+use Rattle.spur_frames.specs.Frames.{Frames, IsFrame, holder_of, other_than, release_frame}
 use Rattle.spur_frames.specs.Clock.{page_held}
 use Rattle.spur_pager.specs.Stand.{AreFramed, FrameHolds}
 use Rattle.spur_pager.proofs.EntryFacts.{Entries, IsAbove, entries, page_again}
@@ -58,7 +58,7 @@ module _ (F : Flat) (frames : Frames) (frame page slot new : ℕ) (a : IsAbove F
 
   pub none_leaving : after.leaving ≡ None
   none_leaving =
-      ap (λ (o : Option ℕ). unless o frame) (ok.leaves page l.holds.small l.holds.valid l.leaving)
+      ap (λ (o : Option ℕ). other_than o frame) (ok.leaves page l.holds.small l.holds.valid l.leaving)
       ∙ ap (λ (b : Bool). if b then None else Some (number_of (word_of F g))) (eq-eqb (number_of (word_of F g)) frame l.holds.number)
 
   -- a page that is valid now is another

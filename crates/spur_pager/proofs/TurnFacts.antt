@@ -19,7 +19,7 @@ use Rattle.spur_pager.specs.Acts.{Act, clear_referenced, leave}
 use Rattle.spur_pager.specs.Service.{bits_in, clock_acts, frame_held, turn_of}
 use Rattle.spur_pager.specs.Room.{entry_room, page_line_count}
 use Rattle.spur_pager.specs.Runs.{Runs}
-use Rattle.spur_pager.specs.Looks.{Clears, Clocks, HasNoMoreLines, IsLooked, KeepsAbsent, Leaves, Looks, KeepsDirty}
+use Rattle.spur_pager.specs.Looks.{Clears, Clocks, HasNoMoreLines, IsLooked, KeepsAbsent, StartsLeaving, Looks, KeepsDirty}
 use Rattle.spur_pager.proofs.JoinFacts.{carried_none, runs_none, runs_then}
 use Rattle.spur_pager.proofs.OptionFacts.{none_or_some, some_not_none}
 
@@ -124,7 +124,7 @@ record LeftAt (b : ℕ) (u v : View) (frame : ℕ) : Type 0 where
   pub frames : v.frames ≡ record (passed u.frames) { leaving = Some frame }
 
 left_is : (b : ℕ) (u v : View) (frame : ℕ) → IsLooked b u v frame true → LeftAt b u v frame
-left_is b u v frame (Leaves bit run frames) = record { bit = bit; runs = run; frames = frames }
+left_is b u v frame (StartsLeaving bit run frames) = record { bit = bit; runs = run; frames = frames }
 
 pub fewer : (b : ℕ) (u v : View) → IsServable u → Looks b u v false → left v < left u
 fewer b u v s l =

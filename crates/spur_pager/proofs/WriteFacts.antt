@@ -27,7 +27,7 @@ use Rattle.spur_walk.proofs.StepFacts.{present_all, suits_all}
 use Rattle.spur_walk.proofs.TableFacts.{entry_from, entry_to, root_word_is, root_word_start}
 use Rattle.spur_walk.proofs.WordFacts.{IsWordOf, serves-written, words-written}
 use Rattle.spur_pager.specs.Acts.{with_entry_word}
-use Rattle.spur_pager.specs.Writes.{MayWrite, Writes}
+use Rattle.spur_pager.specs.Writes.{MayWrite, WritesEntry}
 use Rattle.spur_pager.proofs.PlaceFacts.{IsPlace, mapped-written, placed, present-written, tables-written, within}
 use Rattle.spur_walk.proofs.WrittenFacts.{tags-written, put_stands, suits_written}
 
@@ -80,7 +80,7 @@ put_suits F caches b s n e line i t l present there (Here ei et is) = subst (λ 
 put_suits F caches b s n e line i t l present there (There was away) = suits_all F caches i t l present was
 
 pub writes : (caches news : List (List (Option Line))) (memory : List ℕ) (b g e : ℕ) → MayWalk caches memory → b < length caches → g < table_start → HasEntry caches b g → MayWrite (logical_flat caches memory) caches g e
-    → news ≡ with_entry_word caches b g e → Writes caches memory b g e news
+    → news ≡ with_entry_word caches b g e → WritesEntry caches memory b g e news
 writes caches news memory b g e may within_b user has may_write news_is =
     let F : Flat = logical_flat caches memory in
     let line : Line = has.line in
@@ -102,7 +102,7 @@ writes caches news memory b g e may within_b user has may_write news_is =
     let words : logical_words after memory ≡ slice_set (logical_words caches memory) k e = words-written caches memory b slot line fresh k n e may.agree within_b small word in
     let flat : logical_flat after memory ≡ placed F g e = ap (λ (ws : List ℕ). record F { words = ws }) words in
     let mapped : AreMapped (placed F g e) caches = mapped-written F caches g e is_in.place may_write may.mapped in
-    subst (λ (cs : List (List (Option Line))). Writes caches memory b g e cs) (sym (news_is ∙ ap (λ (o : Option Line). slice_set caches b (changed_found own slot (written n e) o)) has.there)) (record {
+    subst (λ (cs : List (List (Option Line))). WritesEntry caches memory b g e cs) (sym (news_is ∙ ap (λ (o : Option Line). slice_set caches b (changed_found own slot (written n e) o)) has.there)) (record {
       walk = record {
         agree = agrees-put caches b slot fresh line may.agree within_b there word.alike;
         serves = serves-written caches memory b slot line fresh k n e may.agree may.serves within_b word;

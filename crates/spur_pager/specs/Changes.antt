@@ -10,7 +10,7 @@ use Rattle.spur_pager.specs.declared.change.Change.TheVariants.{Referenced, Unre
 use Rattle.spur_flat.specs.Past.{Past}
 use Rattle.spur_pager.specs.Acts.{Hold, IsFetch, written_in}
 use Rattle.spur_pager.specs.Fetch.{Leads}
-use Rattle.spur_pager.specs.Writes.{MayWrite, Writes}
+use Rattle.spur_pager.specs.Writes.{MayWrite, WritesEntry}
 
 abbrev pub changed_word : Change → ℕ → ℕ
 changed_word Referenced e = with_bit e 1 true
@@ -49,7 +49,7 @@ pub record Changes (b g : ℕ) (change : Change) (from : Hold) (before : Past) (
   pub fetch : IsFetch b g from fetched mid
   pub leads : Leads b g from fetched mid
   pub to_is : to ≡ written_in b g (changed_word change) mid
-  pub writes : Writes mid.caches mid.memory b g (changed_word change (hold_entry mid g)) to.caches
+  pub writes : WritesEntry mid.caches mid.memory b g (changed_word change (hold_entry mid g)) to.caches
   pub entries : after.entries ≡ before.entries ++ (fetched ++ entry_for change b g ∷ [])
   pub room : after.room + length (fetched ++ entry_for change b g ∷ []) ≡ before.room
 

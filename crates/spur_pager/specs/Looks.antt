@@ -16,7 +16,7 @@ use Rattle.spur_pager.specs.Runs.{Runs}
 pub data IsLooked (b : ℕ) (w v : View) (frame : ℕ) : Bool → Type 0 where
   Clears : bits_in w (clock.page_of_frame w.frames frame) ≡ true → Runs b (clear_referenced b (clock.page_of_frame w.frames frame) ∷ []) w v → v.frames ≡ passed w.frames
       → IsCleared (bits_in w) (clock.page_of_frame w.frames frame) (bits_in v) → IsLooked b w v frame false
-  Leaves : bits_in w (clock.page_of_frame w.frames frame) ≡ false → Runs b (leave b (clock.page_of_frame w.frames frame) ∷ []) w v → v.frames ≡ record (passed w.frames) { leaving = Some frame }
+  StartsLeaving : bits_in w (clock.page_of_frame w.frames frame) ≡ false → Runs b (leave b (clock.page_of_frame w.frames frame) ∷ []) w v → v.frames ≡ record (passed w.frames) { leaving = Some frame }
       → IsLooked b w v frame true
 
 -- the entry of each page that is not valid is as it was

@@ -30,7 +30,7 @@ pub record MayWrite (F : Flat) (caches : List (List (Option Line))) (g e : ℕ) 
 
 -- What it leaves: the logical memory has the entry at its one place, what the walk needs is there again, lines of present
 -- pages are, and no tag moves. The block is still exclusive there.
-pub record Writes (before : List (List (Option Line))) (memory : List ℕ) (b g e : ℕ) (after : List (List (Option Line))) : Type 0 where
+pub record WritesEntry (before : List (List (Option Line))) (memory : List ℕ) (b g e : ℕ) (after : List (List (Option Line))) : Type 0 where
   pub walk : MayWalk after memory
   pub words : logical_words after memory ≡ slice_set (logical_words before memory) (entry_place (logical_flat before memory) g) e
   pub present : ArePresent (logical_flat before memory) before → ArePresent (logical_flat after memory) after

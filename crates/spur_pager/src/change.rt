@@ -34,7 +34,7 @@ pub(crate) fn changed(entry: Pte, change: Change) -> Pte
         Change::Dirty => entry.with_dirty(true),
         Change::Leaving => entry.with_leaving(true),
         Change::Out(slot) => Pte::swapped(slot, entry.protection()),
-        Change::In(frame) => Pte::resident(frame, entry.protection()),
+        Change::In(frame) => entry.brought_in(frame),
     }
 }
 

@@ -69,7 +69,8 @@ fn save_page<B: Backing>(phys: &Phys, backing: &mut B, frame: u32, slot: u32) ->
     ensures put { OnOk result
         ((B.meaning backing.new).pages ≡ told_with (B.meaning backing.old).pages slot (page_at phys.now frame)) }
     ensures pages_stay { OnErr result ((B.meaning backing.new).pages ≡ (B.meaning backing.old).pages) }
-    ensures stays { SameButFaults (after_write (B.meaning backing.old) (B.meaning backing.new).pages) (B.meaning backing.new) }
+    ensures stays { SameButFaults (after_write (B.meaning backing.old) (B.meaning backing.new).pages)
+        (B.meaning backing.new) }
     ensures later { (B.meaning backing.old).faults ≤ (B.meaning backing.new).faults }
     ensures cause { OnErr result ((B.meaning backing.old).faults < (B.meaning backing.new).faults) }
 {

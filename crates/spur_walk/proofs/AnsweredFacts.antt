@@ -20,7 +20,7 @@ use Rattle.spur_flat.proofs.UntoldFacts.{untold-where-told}
 use Rattle.spur_bus.specs.Calls.{line_count, tags_of}
 use Rattle.spur_bus.specs.Logical.{logical_words}
 use Rattle.spur_bus.specs.Stand.{flat_of, state_of}
-use Rattle.spur_walk.specs.Tables.{HasTablesOf}
+use Rattle.spur_walk.specs.Tables.{HasTablesOf, flat_of_words}
 use Rattle.spur_walk.specs.Answered.{AccessIsCarried, AlignMayStand, StoresLeaveBy}
 use Rattle.spur_flat.proofs.QuietFacts.{tags_same}
 
@@ -42,10 +42,7 @@ open_emptied opened (entry.SetDirty b at) is = absurd is
 open_emptied opened (entry.ClearRef b at) is = absurd is
 
 -- an access changes words alone, and by words alone
-abbrev of_words : List ℕ → Flat
-of_words ws = record { words = ws; swap = []; pages = []; tables = 0; frames = 0 }
-
-on_words : (rest : Flat) (ws : List ℕ) (e : Entry) → IsAccess e → on (record rest { words = ws }) e ≡ record rest { words = (on (of_words ws) e).words }
+on_words : (rest : Flat) (ws : List ℕ) (e : Entry) → IsAccess e → on (record rest { words = ws }) e ≡ record rest { words = (on (flat_of_words ws) e).words }
 on_words rest ws (entry.Load b at value) is = refl
 on_words rest ws (entry.Store b at value) is = refl
 on_words rest ws (entry.Tas b at old) is = refl

@@ -1,5 +1,5 @@
 -- With empty caches the walk may begin.
-use Rattle.std.proofs.Common.{◌≡◌, ◌∙◌, ℕ, zero, suc, ◌/◌, ◌%◌, ◌≤◌, ◌<◌, ap, sym, refl, subst, List, [], ◌∷◌, map, replicate, Option, Some, None}
+use Rattle.std.proofs.Common.{◌≡◌, ◌∙◌, ℕ, zero, suc, ◌/◌, ◌%◌, ◌≤◌, ◌<◌, ap, sym, refl, subst, List, ◌∷◌, map, replicate, Option, Some, None}
 use Rattle.spur_addr.specs.Address.{table_start, root_start}
 use Rattle.spur_cache.specs.declared.line.Line.{Line}
 use Rattle.spur_cache.specs.Lines.{line_at}
@@ -7,7 +7,7 @@ use Rattle.spur_bus.specs.Boards.{first_some, line_in}
 use Rattle.spur_bus.specs.Logical.{logical_at, logical_words, owner_in, owner_of, word_or}
 use Rattle.spur_bus.proofs.EachFacts.{each_id}
 use Rattle.spur_bus.proofs.EmptyFacts.{agrees-empty, serves-empty}
-use Rattle.spur_walk.specs.Tables.{HasTables, block_address}
+use Rattle.spur_walk.specs.Tables.{HasTables, block_address, flat_of_words}
 use Rattle.spur_walk.specs.Laws.{EmptyMayWalk}
 use Rattle.spur_walk.proofs.ValidFacts.{tables_alone}
 
@@ -47,7 +47,7 @@ empty-walks rest n k memory some few count ok =
       walk = record {
         agree = agrees-empty n k some few count;
         serves = serves-empty n k memory;
-        tables = subst (λ (ws : List ℕ). HasTables (record { words = ws; swap = []; pages = []; tables = 0; frames = 0 })) (sym same) (tables_alone rest memory ok);
+        tables = subst (λ (ws : List ℕ). HasTables (flat_of_words ws)) (sym same) (tables_alone rest memory ok);
         mapped = λ (i s : ℕ) (line : Line) (there : line_in (empty n k) i s ≡ Some line). absurd (no_line n k i s line there);
       };
       present = record {

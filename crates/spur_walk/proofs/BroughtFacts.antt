@@ -30,7 +30,7 @@ use Rattle.spur_bus.proofs.FromFacts.{From, Fresh, Mine, Other, from}
 use Rattle.spur_bus.proofs.LineFacts.{set_away}
 use Rattle.spur_walk.specs.declared.plan.Plan.{Plan}
 use Rattle.spur_walk.specs.declared.plan.Plan.TheVariants as plan
-use Rattle.spur_walk.specs.Steps.{IsFilled, MayDo, MayFill, OfPage, OfRoot, OfTable, stepped}
+use Rattle.spur_walk.specs.Steps.{IsFilled, MayDo, MayFill, OfPteBlock, OfRootBlock, OfUserBlock, stepped}
 use Rattle.spur_walk.specs.Tables.{block_address, logical_flat}
 use Rattle.spur_walk.proofs.FillFacts.{start_from_root, start_from_table}
 use Rattle.spur_walk.proofs.PlanFacts.{may_do, may_do_page}
@@ -119,10 +119,10 @@ staying e need h = staying_if (is_valid e) (is_referenced e) (is_leaving e) (all
 
 filled_stays : (F : Flat) (caches : List (List (Option Line))) (b : ℕ) (l : Layer) (n : Need) (g : ℕ) (place : Place) → IsFilled F caches b l n g place → block_address (block_of g) < table_start
     → (is_valid (word_of F (block_address (block_of g))) && not (is_leaving (word_of F (block_address (block_of g))))) ≡ true
-filled_stays F caches b UserBlock n g place (OfPage m k p low above may is) below =
+filled_stays F caches b UserBlock n g place (OfUserBlock m k p low above may is) below =
     ap (λ (w : ℕ). is_valid w && not (is_leaving w)) (word_start F g) ∙ staying (word_of F g) n may
-filled_stays F caches b PteBlock n g place (OfTable m k p low to above valid is) below = let start : table_start ≤ block_start_of g = start_from_table g low in absurd (omega arith)
-filled_stays F caches b RootBlock Read g place (OfRoot k p low to is) below = let start : root_start ≤ block_start_of g = start_from_root g low in absurd (omega arith)
+filled_stays F caches b PteBlock n g place (OfPteBlock m k p low to above valid is) below = let start : table_start ≤ block_start_of g = start_from_table g low in absurd (omega arith)
+filled_stays F caches b RootBlock Read g place (OfRootBlock k p low to is) below = let start : root_start ≤ block_start_of g = start_from_root g low in absurd (omega arith)
 filled_stays F caches b RootBlock Write g place filled below = elim filled [ ]
 
 fill_brings : (caches : List (List (Option Line))) (memory : List ℕ) (b g : ℕ) (l : Layer) (n : Need) (at : ℕ) (place : Place) → Agrees caches → b < length caches → MayFill (logical_flat caches memory) caches b l n at place

@@ -26,7 +26,7 @@ use Rattle.spur_bus.proofs.CallFacts.{tags_in}
 use Rattle.spur_walk.specs.Tables.{HasTablesOf, StandsIn, block_address, logical_flat}
 use Rattle.spur_walk.specs.Tables as stands
 use Rattle.spur_walk.specs.Present.{IsPresent, MayWalk}
-use Rattle.spur_walk.specs.Steps.{HasBlock, IsFilled, OfPage, OfTable, OfRoot}
+use Rattle.spur_walk.specs.Steps.{HasBlock, IsFilled, OfUserBlock, OfPteBlock, OfRootBlock}
 use Rattle.spur_walk.proofs.TableFacts.{page_start, root_word_start, same_word, wired_start, word_start}
 use Rattle.spur_walk.proofs.PlanFacts.{own_cache}
 
@@ -68,12 +68,12 @@ lets e need h =
 
 -- the frame
 pub fills_stands : (F : Flat) (caches : List (List (Option Line))) (b : ℕ) (l : Layer) (n : Need) (g : ℕ) (place : Place) → IsFilled F caches b l n g place → StandsIn F (block_of g) place.frame
-fills_stands F caches b UserBlock n g place (OfPage m k p low above may is) =
+fills_stands F caches b UserBlock n g place (OfUserBlock m k p low above may is) =
     stands.OfPage (start_low g low) (ap (λ (w : ℕ). is_valid w) (word_start F g) ∙ (lets (word_of F g) n may).valid) (ap (λ (w : ℕ). number_of w) (word_start F g) ∙ sym (ap (λ (q : Place). q.frame) is))
-fills_stands F caches b PteBlock n g place (OfTable m k p from to above valid is) =
+fills_stands F caches b PteBlock n g place (OfPteBlock m k p from to above valid is) =
     stands.OfTable (start_from_table g from) (start_below_root g to) (ap (λ (r : ℕ). is_valid (slice_index F.words r)) (root_word_start g) ∙ valid)
     (ap (λ (r : ℕ). number_of (slice_index F.words r)) (root_word_start g) ∙ sym (ap (λ (q : Place). q.frame) is))
-fills_stands F caches b RootBlock Read g place (OfRoot k p from to is) = stands.OfRoot (start_from_root g from) (start_in_root g to) (ap (λ (q : Place). q.frame) is ∙ sym (wired_start g))
+fills_stands F caches b RootBlock Read g place (OfRootBlock k p from to is) = stands.OfRoot (start_from_root g from) (start_in_root g to) (ap (λ (q : Place). q.frame) is ∙ sym (wired_start g))
 fills_stands F caches b RootBlock Write g place f = elim f [ ]
 
 -- a line and present pages
@@ -84,7 +84,7 @@ pub record Suits (F : Flat) (line : Line) : Type 0 where
   pub unowned : root_start ≤ block_address line.tag → is_owned line.state ≡ false
 
 pub fills_suits : (F : Flat) (caches : List (List (Option Line))) (b : ℕ) (l : Layer) (n : Need) (g : ℕ) (place : Place) (words : List ℕ) → IsFilled F caches b l n g place → Suits F (read_line g (filled_state n) place words)
-fills_suits F caches b UserBlock n g place words (OfPage m k p low above may is) =
+fills_suits F caches b UserBlock n g place words (OfUserBlock m k p low above may is) =
     let below : block_start_of g < table_start = start_low g low in
     record {
       user = λ (u : block_start_of g < table_start). record {
@@ -97,7 +97,7 @@ fills_suits F caches b UserBlock n g place words (OfPage m k p low above may is)
       root = λ (from : root_start ≤ block_start_of g). absurd (omega arith);
       unowned = λ (from : root_start ≤ block_start_of g). absurd (omega arith);
     }
-fills_suits F caches b PteBlock n g place words (OfTable m k p from to above valid is) =
+fills_suits F caches b PteBlock n g place words (OfPteBlock m k p from to above valid is) =
     let low : table_start ≤ block_start_of g = start_from_table g from in
     let high : block_start_of g < root_start = start_below_root g to in
     record {
@@ -106,7 +106,7 @@ fills_suits F caches b PteBlock n g place words (OfTable m k p from to above val
       root = λ (f : root_start ≤ block_start_of g). absurd (omega arith);
       unowned = λ (f : root_start ≤ block_start_of g). absurd (omega arith);
     }
-fills_suits F caches b RootBlock Read g place words (OfRoot k p from to is) =
+fills_suits F caches b RootBlock Read g place words (OfRootBlock k p from to is) =
     let low : root_start ≤ block_start_of g = start_from_root g from in
     record {
       user = λ (u : block_start_of g < table_start). absurd (omega arith);
@@ -139,9 +139,9 @@ layer_root s from to =
     ∙ ap (λ (t : Bool). is_layer (layer_from false false t) RootBlock) (lt-ltb s (root_start + 2 ^ 18) to)
 
 pub fills_layer : (F : Flat) (caches : List (List (Option Line))) (b : ℕ) (l : Layer) (n : Need) (g : ℕ) (place : Place) → IsFilled F caches b l n g place → is_layer (layer_of (block_start_of g)) l ≡ true
-fills_layer F caches b UserBlock n g place (OfPage m k p low above may is) = layer_user (block_start_of g) (start_low g low)
-fills_layer F caches b PteBlock n g place (OfTable m k p from to above valid is) = layer_table (block_start_of g) (start_from_table g from) (start_below_root g to)
-fills_layer F caches b RootBlock Read g place (OfRoot k p from to is) = layer_root (block_start_of g) (start_from_root g from) (start_in_root g to)
+fills_layer F caches b UserBlock n g place (OfUserBlock m k p low above may is) = layer_user (block_start_of g) (start_low g low)
+fills_layer F caches b PteBlock n g place (OfPteBlock m k p from to above valid is) = layer_table (block_start_of g) (start_from_table g from) (start_below_root g to)
+fills_layer F caches b RootBlock Read g place (OfRootBlock k p from to is) = layer_root (block_start_of g) (start_from_root g from) (start_in_root g to)
 fills_layer F caches b RootBlock Write g place f = elim f [ ]
 
 -- the block of the entry above is there
@@ -178,34 +178,34 @@ same_root F L g has = ap (slice_index F.words) (root_word_start g) ∙ has.root 
 
 pub fills_tables : (F L : Flat) (caches : List (List (Option Line))) (memory : List ℕ) (b : ℕ) (l : Layer) (n : Need) (g : ℕ) (place : Place) → MayWalk caches memory → b < length caches → HasTablesOf F L.words → IsFilled L caches b l n g place
     → table_refusal F l n (block_start_of g) (T.block_state (T.tag_at (tags_of caches) b (entry_block (block_start_of g)))) ≡ None
-fills_tables F L caches memory b UserBlock n g place may within has (OfPage m k p low above lets is) =
+fills_tables F L caches memory b UserBlock n g place may within has (OfUserBlock m k p low above lets is) =
     two_held (is_alive (T.block_state (T.tag_at (tags_of caches) b (entry_block (block_start_of g))))) (may_fill (word_of F (block_start_of g)) n) 8 10
     (state_number (T.block_state (T.tag_at (tags_of caches) b (entry_block (block_start_of g))))) (word_of F (block_start_of g))
     (above_state caches memory b g may within above)
     (ap (λ (w : ℕ). may_fill w n) (same_start F L g has low) ∙ lets)
-fills_tables F L caches memory b PteBlock n g place may within has (OfTable m k p from to above valid is) =
+fills_tables F L caches memory b PteBlock n g place may within has (OfPteBlock m k p from to above valid is) =
     two_held (is_alive (T.block_state (T.tag_at (tags_of caches) b (entry_block (block_start_of g))))) (is_valid (slice_index F.words (root_word_of (block_start_of g)))) 9 11
     (state_number (T.block_state (T.tag_at (tags_of caches) b (entry_block (block_start_of g))))) (slice_index F.words (root_word_of (block_start_of g)))
     (above_state caches memory b g may within above)
     (ap (λ (w : ℕ). is_valid w) (same_root F L g has) ∙ valid)
-fills_tables F L caches memory b RootBlock Read g place may within has (OfRoot k p from to is) = refl
+fills_tables F L caches memory b RootBlock Read g place may within has (OfRootBlock k p from to is) = refl
 fills_tables F L caches memory b RootBlock Write g place may within has f = elim f [ ]
 
 -- and the line has what the entry's tag step gives it
 pub fills_gives : (F L : Flat) (caches : List (List (Option Line))) (b : ℕ) (l : Layer) (n : Need) (g : ℕ) (place : Place) → HasTablesOf F L.words → IsFilled L caches b l n g place → Gives F l n (block_start_of g) place
-fills_gives F L caches b UserBlock n g place has (OfPage m k p low above may is) =
+fills_gives F L caches b UserBlock n g place has (OfUserBlock m k p low above may is) =
     let word : word_of F (block_start_of g) ≡ word_of L g = same_start F L g has low in
     record {
       frame = ap (λ (w : ℕ). number_of w) word ∙ sym (ap (λ (q : Place). q.frame) is);
       prot = ap (λ (w : ℕ). protection_of w) word ∙ sym (ap (λ (q : Place). q.prot) is);
       dirty = ap (λ (w : ℕ). is_dirty w) word ∙ sym (ap (λ (q : Place). q.dirty) is);
     }
-fills_gives F L caches b PteBlock n g place has (OfTable m k p from to above valid is) = record {
+fills_gives F L caches b PteBlock n g place has (OfPteBlock m k p from to above valid is) = record {
   frame = ap (λ (w : ℕ). number_of w) (same_root F L g has) ∙ sym (ap (λ (q : Place). q.frame) is);
   prot = sym (ap (λ (q : Place). q.prot) is);
   dirty = sym (ap (λ (q : Place). q.dirty) is);
 }
-fills_gives F L caches b RootBlock Read g place has (OfRoot k p from to is) = record {
+fills_gives F L caches b RootBlock Read g place has (OfRootBlock k p from to is) = record {
   frame = wired_start g ∙ sym (ap (λ (q : Place). q.frame) is);
   prot = sym (ap (λ (q : Place). q.prot) is);
   dirty = sym (ap (λ (q : Place). q.dirty) is);

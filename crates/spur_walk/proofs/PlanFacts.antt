@@ -132,7 +132,7 @@ may_user : (F : Flat) (caches : List (List (Option Line))) (b at : ℕ) (need : 
     → fault_of (word_of F at) need ≡ o → MayDo F caches b at (fault_or o (filling (get_or caches b []) UserBlock need at (user_place (word_of F at))))
 may_user F caches b at need (Some kind) cache user none above is = tt
 may_user F caches b at need None cache user none above is =
-    may_filling F caches b at at UserBlock need (user_place (word_of F at)) cache none (filled.OfPage need at (user_place (word_of F at)) user above (fills (word_of F at) need is) refl)
+    may_filling F caches b at at UserBlock need (user_place (word_of F at)) cache none (filled.OfUserBlock need at (user_place (word_of F at)) user above (fills (word_of F at) need is) refl)
 
 -- steps 3 and 4
 table_from : (at : ℕ) → table_start ≤ entry_address_of at
@@ -143,7 +143,7 @@ may_table_fill : (F : Flat) (caches : List (List (Option Line))) (b g at : ℕ) 
 may_table_fill F caches b g at need cache user none above valid =
     let index : root_word_of (entry_address_of at) ≡ root_index_of at = root_word_is at user in
     may_filling F caches b g (entry_address_of at) PteBlock need (table_place (root_at F at)) cache none
-    (filled.OfTable need (entry_address_of at) (table_place (root_at F at)) (table_from at) (entry_low at user) above
+    (filled.OfPteBlock need (entry_address_of at) (table_place (root_at F at)) (table_from at) (entry_low at user) above
     (ap (λ (n : ℕ). is_valid (slice_index F.words n)) index ∙ valid)
     (ap (λ (n : ℕ). table_place (slice_index F.words n)) (sym index)))
 
@@ -157,7 +157,7 @@ may_root : (F : Flat) (caches : List (List (Option Line))) (b g at : ℕ) → Is
     → MayDo F caches b g (root_plan (get_or caches b []) at)
 may_root F caches b g at cache user none =
     may_filling F caches b g (entry_address_of (entry_address_of at)) RootBlock Read (root_place (entry_address_of (entry_address_of at))) cache none
-    (filled.OfRoot (entry_address_of (entry_address_of at)) (root_place (entry_address_of (entry_address_of at))) (root_from at) (root_to at user) refl)
+    (filled.OfRootBlock (entry_address_of (entry_address_of at)) (root_place (entry_address_of (entry_address_of at))) (root_from at) (root_to at user) refl)
 
 may_climb : (F : Flat) (caches : List (List (Option Line))) (b at : ℕ) (o : Option Line) → IsCache (get_or caches b []) → at < table_start → line_of_block caches b (entry_address_of at) ≡ None
     → line_of_block caches b (entry_address_of (entry_address_of at)) ≡ o → MayDo F caches b at (climb (get_or caches b []) at (where_found o (root_at F at)))

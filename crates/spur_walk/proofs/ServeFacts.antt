@@ -47,7 +47,7 @@ use Rattle.spur_walk.specs.Look.{look_of}
 use Rattle.spur_walk.specs.Tables.{block_address, logical_flat, root_at}
 use Rattle.spur_walk.specs.Present.{MayWalk}
 use Rattle.spur_walk.specs.Plan.{access_plan, climb, fault_of, fault_or, fill_over, filling, page_by, page_climb, page_plan, plan_by, root_place, table_place, user_place, where_found}
-use Rattle.spur_walk.specs.Steps.{IsFilled, OfPage, MayDo, answer_of, stepped}
+use Rattle.spur_walk.specs.Steps.{IsFilled, OfUserBlock, MayDo, answer_of, stepped}
 use Rattle.spur_walk.specs.Laws.{AccessIsServed, IsServing, OwnBlockHits, PageIsServed, owned_for}
 use Rattle.spur_walk.proofs.AnswerFacts.{claim_by}
 use Rattle.spur_walk.proofs.FillFacts.{lets}
@@ -287,7 +287,7 @@ or_false true h = refl
 or_false false h = cc
 
 filled_hits : (F : Flat) (caches : List (List (Option Line))) (b at : ℕ) (place : Place) (words : List ℕ) (need : Need) → IsFilled F caches b UserBlock Write at place → look_of (Some (read_line at OwnedExclusive place words)) need ≡ Hit
-filled_hits F caches b at place words need (OfPage n g p low above may is) =
+filled_hits F caches b at place words need (OfUserBlock n g p low above may is) =
     let ok = lets (word_of F at) Write may in
     hits (read_line at OwnedExclusive place words) need
     (ap (λ (q : Place). grants q.prot (access_of need)) is ∙ grants_read (protection_of (word_of F at)) need ok.allowed)

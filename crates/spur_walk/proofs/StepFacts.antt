@@ -41,7 +41,7 @@ use Rattle.spur_bus.proofs.TagsFacts.{with-tags}
 use Rattle.spur_bus.proofs.AllowFacts.{claim-tagged, back-tagged, read-tagged}
 use Rattle.spur_walk.specs.declared.plan.Plan.{Plan}
 use Rattle.spur_walk.specs.declared.plan.Plan.TheVariants as plan
-use Rattle.spur_walk.specs.Tables.{HasTables, HasTablesOf, StandsIn, block_address, logical_flat}
+use Rattle.spur_walk.specs.Tables.{HasTables, HasTablesOf, StandsIn, block_address, flat_of_words, logical_flat}
 use Rattle.spur_walk.specs.Present.{AreMapped, ArePresent, MayWalk}
 use Rattle.spur_walk.specs.Steps.{MayFill, MayRefresh, MayTake, Steps, answer_of, dirtied_in, stepped, stepped_memory, tags_walked, walked_refusal}
 use Rattle.spur_walk.proofs.FrameFacts.{may_read}
@@ -131,7 +131,7 @@ length-turned caches own g kind fresh = length-each (turned_lines own g kind fre
 
 -- the logical memory is the same
 pub same_flat : (before after : List (List (Option Line))) (old new : List ℕ) → logical_words after new ≡ logical_words before old → logical_flat after new ≡ logical_flat before old
-same_flat before after old new same = ap (λ (ws : List ℕ). record { words = ws; swap = []; pages = []; tables = 0; frames = 0 }) same
+same_flat before after old new same = ap (λ (ws : List ℕ). flat_of_words ws) same
 
 -- what a step did, on caches and memory
 pub record Did (before : List (List (Option Line))) (old : List ℕ) (after : List (List (Option Line))) (new : List ℕ) : Type 0 where

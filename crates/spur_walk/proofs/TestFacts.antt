@@ -9,12 +9,11 @@ use Rattle.spur_addr.specs.PageEntry.{is_valid, is_readable, number_of}
 use Rattle.spur_cache.specs.declared.line.Line.{Line}
 use Rattle.spur_cache.specs.Lines.{IsCache}
 use Rattle.spur_snoop.specs.Size.{IsLineCount}
-use Rattle.spur_flat.specs.declared.flat.Flat.{Flat}
 use Rattle.spur_flat.specs.Pager.{or_zero, word_of}
 use Rattle.spur_bus.specs.Boards.{line_in}
 use Rattle.spur_bus.proofs.EmptyFacts.{agrees-empty, serves-empty}
 use Rattle.spur_walk.specs.Begins.{may_begin}
-use Rattle.spur_walk.specs.Tables.{HasTables, IsPageFrame, logical_flat, root_at, user_roots}
+use Rattle.spur_walk.specs.Tables.{HasTables, IsPageFrame, flat_of_words, logical_flat, root_at, user_roots}
 use Rattle.spur_walk.specs.Present.{MayWalk}
 use Rattle.spur_walk.proofs.BeginFacts.{logical_memory, no_line}
 
@@ -112,30 +111,27 @@ entry_in words root entry p r true are entries small high valid =
     let low : p < 1024 = omega arith in
     subst (λ (w : ℕ). (under words p w ≡ 0) ⊎ ((under words p w ≡ entry) × (p ≡ 0))) (sym is) (under_root words root entry p are low)
 
-abbrev flat : List ℕ → Flat
-flat words = record { words = words; swap = []; pages = []; tables = 0; frames = 0 }
-
-entry_at : (words : List ℕ) (root entry at : ℕ) → AreWords words root entry → AreEntries root entry → at < table_start → (word_of (flat words) at ≡ 0) ⊎ ((word_of (flat words) at ≡ entry) × (page_of at ≡ 0))
+entry_at : (words : List ℕ) (root entry at : ℕ) → AreWords words root entry → AreEntries root entry → at < table_start → (word_of (flat_of_words words) at ≡ 0) ⊎ ((word_of (flat_of_words words) at ≡ entry) × (page_of at ≡ 0))
 entry_at words root entry at are entries user =
     let u : at < 255 * 2 ^ 30 = user in
     entry_in words root entry (at / 2 ^ 12) (at / 2 ^ 22) (is_valid (slice_index words (at / 2 ^ 22))) are entries (omega arith) (shr-shr at 12 10) refl
 
 pub record IsEntry (words : List ℕ) (entry at : ℕ) : Type 0 where
-  pub is : word_of (flat words) at ≡ entry
+  pub is : word_of (flat_of_words words) at ≡ entry
   pub page : page_of at ≡ 0
 
-valid_entry : (words : List ℕ) (root entry at : ℕ) → AreWords words root entry → AreEntries root entry → at < table_start → is_valid (word_of (flat words) at) ≡ true → IsEntry words entry at
+valid_entry : (words : List ℕ) (root entry at : ℕ) → AreWords words root entry → AreEntries root entry → at < table_start → is_valid (word_of (flat_of_words words) at) ≡ true → IsEntry words entry at
 valid_entry words root entry at are entries user valid =
     ⊎_elim
-    (λ (none : word_of (flat words) at ≡ 0). absurd (not_valid (ap is_valid (sym none) ∙ valid)))
-    (λ (some : (word_of (flat words) at ≡ entry) × (page_of at ≡ 0)). record { is = some.0; page = some.1 })
+    (λ (none : word_of (flat_of_words words) at ≡ 0). absurd (not_valid (ap is_valid (sym none) ∙ valid)))
+    (λ (some : (word_of (flat_of_words words) at ≡ entry) × (page_of at ≡ 0)). record { is = some.0; page = some.1 })
     (entry_at words root entry at are entries user)
 
-readable_entry : (words : List ℕ) (root entry at : ℕ) → AreWords words root entry → AreEntries root entry → at < table_start → IsTrue (is_readable (word_of (flat words) at))
+readable_entry : (words : List ℕ) (root entry at : ℕ) → AreWords words root entry → AreEntries root entry → at < table_start → IsTrue (is_readable (word_of (flat_of_words words) at))
 readable_entry words root entry at are entries user =
     ⊎_elim
-    (λ (none : word_of (flat words) at ≡ 0). subst (λ (w : ℕ). IsTrue (is_readable w)) (sym none) refl)
-    (λ (some : (word_of (flat words) at ≡ entry) × (page_of at ≡ 0)). subst (λ (w : ℕ). IsTrue (is_readable w)) (sym some.0) entries.readable)
+    (λ (none : word_of (flat_of_words words) at ≡ 0). subst (λ (w : ℕ). IsTrue (is_readable w)) (sym none) refl)
+    (λ (some : (word_of (flat_of_words words) at ≡ entry) × (page_of at ≡ 0)). subst (λ (w : ℕ). IsTrue (is_readable w)) (sym some.0) entries.readable)
     (entry_at words root entry at are entries user)
 
 readable_root : (words : List ℕ) (root entry r : ℕ) → AreWords words root entry → AreEntries root entry → r < 2 ^ 16 → IsTrue (is_readable (slice_index words r))
@@ -154,31 +150,31 @@ small_root r small = let s : r < 255 * 2 ^ 8 = small in omega arith
 frame_of_root : (words : List ℕ) (root entry r : ℕ) → AreWords words root entry → AreEntries root entry → r < 2 ^ 16 → is_valid (slice_index words r) ≡ true → number_of (slice_index words r) ≡ 64
 frame_of_root words root entry r are entries small valid = ap (λ (w : ℕ). number_of w) (root_word words root entry r are entries small valid)
 
-frame_of_entry : (words : List ℕ) (root entry at : ℕ) → AreWords words root entry → AreEntries root entry → at < table_start → is_valid (word_of (flat words) at) ≡ true → number_of (word_of (flat words) at) ≡ 65
+frame_of_entry : (words : List ℕ) (root entry at : ℕ) → AreWords words root entry → AreEntries root entry → at < table_start → is_valid (word_of (flat_of_words words) at) ≡ true → number_of (word_of (flat_of_words words) at) ≡ 65
 frame_of_entry words root entry at are entries user valid =
     let e = valid_entry words root entry at are entries user valid in
     ap (λ (w : ℕ). number_of w) e.is ∙ entries.frame (ap (λ (w : ℕ). is_valid w) (sym e.is) ∙ valid)
 
-in_frame : (words : List ℕ) (n f : ℕ) → length words ≡ 67584 → n ≡ f → 64 ≤ f → f ≤ 65 → IsPageFrame (flat words) n
+in_frame : (words : List ℕ) (n f : ℕ) → length words ≡ 67584 → n ≡ f → 64 ≤ f → f ≤ 65 → IsPageFrame (flat_of_words words) n
 in_frame words n f long is low high = record { low = omega arith; room = omega arith }
 
-pub has_tables : (words : List ℕ) (root entry : ℕ) → AreWords words root entry → AreEntries root entry → HasTables (flat words)
+pub has_tables : (words : List ℕ) (root entry : ℕ) → AreWords words root entry → AreEntries root entry → HasTables (flat_of_words words)
 has_tables words root entry are entries = record {
   root = let long : length words ≡ 67584 = are.long in omega arith;
   root_readable = λ (r : ℕ) (small : r < user_roots). readable_root words root entry r are entries (small_root r small);
   readable = λ (at : ℕ) (user : at < table_start). readable_entry words root entry at are entries user;
   root_frame = λ (r : ℕ) (small : r < user_roots) (valid : is_valid (slice_index words r) ≡ true).
       in_frame words (number_of (slice_index words r)) 64 are.long (frame_of_root words root entry r are entries (small_root r small) valid) (omega arith) (omega arith);
-  frame = λ (at : ℕ) (user : at < table_start) (valid : is_valid (word_of (flat words) at) ≡ true).
-      in_frame words (number_of (word_of (flat words) at)) 65 are.long (frame_of_entry words root entry at are entries user valid) (omega arith) (omega arith);
+  frame = λ (at : ℕ) (user : at < table_start) (valid : is_valid (word_of (flat_of_words words) at) ≡ true).
+      in_frame words (number_of (word_of (flat_of_words words) at)) 65 are.long (frame_of_entry words root entry at are entries user valid) (omega arith) (omega arith);
   root_apart = λ (r s : ℕ) (small_r : r < user_roots) (small_s : s < user_roots) (valid_r : is_valid (slice_index words r) ≡ true) (valid_s : is_valid (slice_index words s) ≡ true) (same : number_of (slice_index words r) ≡ number_of (slice_index words s)).
       valid_root words root entry r are (small_root r small_r) valid_r ∙ sym (valid_root words root entry s are (small_root s small_s) valid_s);
-  apart = λ (at to : ℕ) (user_at : at < table_start) (user_to : to < table_start) (valid_at : is_valid (word_of (flat words) at) ≡ true) (valid_to : is_valid (word_of (flat words) to) ≡ true)
-      (same : number_of (word_of (flat words) at) ≡ number_of (word_of (flat words) to)).
+  apart = λ (at to : ℕ) (user_at : at < table_start) (user_to : to < table_start) (valid_at : is_valid (word_of (flat_of_words words) at) ≡ true) (valid_to : is_valid (word_of (flat_of_words words) to) ≡ true)
+      (same : number_of (word_of (flat_of_words words) at) ≡ number_of (word_of (flat_of_words words) to)).
       (valid_entry words root entry at are entries user_at valid_at).page ∙ sym (valid_entry words root entry to are entries user_to valid_to).page;
-  table_apart = λ (at r : ℕ) (user : at < table_start) (small : r < user_roots) (valid : is_valid (word_of (flat words) at) ≡ true) (valid_r : is_valid (slice_index words r) ≡ true)
-      (same : number_of (word_of (flat words) at) ≡ number_of (slice_index words r)).
-      differ (number_of (word_of (flat words) at)) (number_of (slice_index words r)) (frame_of_entry words root entry at are entries user valid) (frame_of_root words root entry r are entries (small_root r small) valid_r) same;
+  table_apart = λ (at r : ℕ) (user : at < table_start) (small : r < user_roots) (valid : is_valid (word_of (flat_of_words words) at) ≡ true) (valid_r : is_valid (slice_index words r) ≡ true)
+      (same : number_of (word_of (flat_of_words words) at) ≡ number_of (slice_index words r)).
+      differ (number_of (word_of (flat_of_words words) at)) (number_of (slice_index words r)) (frame_of_entry words root entry at are entries user valid) (frame_of_root words root entry r are entries (small_root r small) valid_r) same;
 }
   where
     differ : (n m : ℕ) → n ≡ 65 → m ≡ 64 → n ≡ m → ⊥
@@ -189,7 +185,7 @@ may_walk_in : (k : ℕ) (memory : List ℕ) (root entry : ℕ) → IsLineCount k
 may_walk_in k memory root entry count are entries = record {
   agree = agrees-empty 1 k (omega arith) (omega arith) count;
   serves = serves-empty 1 k memory;
-  tables = subst (λ (ws : List ℕ). HasTables (flat ws)) (sym (logical_memory 1 k memory)) (has_tables memory root entry are entries);
+  tables = subst (λ (ws : List ℕ). HasTables (flat_of_words ws)) (sym (logical_memory 1 k memory)) (has_tables memory root entry are entries);
   mapped = λ (i s : ℕ) (line : Line) (there : line_in (replicate k None ∷ []) i s ≡ Some line). absurd (no_line 1 k i s line there);
 }
 

@@ -1,5 +1,5 @@
 -- The tables of a valid flat state.
-use Rattle.std.proofs.Common.{◌≡◌, ◌∙◌, ℕ, ◌+◌, ◌*◌, ◌/◌, ◌%◌, ◌^◌, ◌<◌, ◌≤◌, Bool, true, false, if◌then◌else◌, ap, sym, refl, List, [], length, slice_index, Option, Some, None, arith}
+use Rattle.std.proofs.Common.{◌≡◌, ◌∙◌, ℕ, ◌+◌, ◌*◌, ◌/◌, ◌%◌, ◌^◌, ◌<◌, ◌≤◌, Bool, true, false, if◌then◌else◌, ap, sym, refl, List, length, slice_index, Option, Some, None, arith}
 use Rattle.std.specs.Prelude.{IsTrue}
 use Rattle.std.proofs.lemmas.List.{get_or-take}
 use Rattle.spur_addr.specs.Address.{page_of, table_start}
@@ -12,7 +12,7 @@ use Rattle.spur_flat.specs.Validity.{IsDataFrame, IsTableFrame, IsValidFlat}
 use Rattle.spur_flat.proofs.WalkFacts.{walk_of-entry}
 use Rattle.spur_bus.specs.Logical.{logical_words}
 use Rattle.spur_bus.specs.Stand.{flat_of}
-use Rattle.spur_walk.specs.Tables.{HasTables, IsPageFrame, user_roots}
+use Rattle.spur_walk.specs.Tables.{HasTables, IsPageFrame, flat_of_words, user_roots}
 use Rattle.spur_walk.specs.Laws.{LikeHasTables, ValidHasTables}
 
 walk_there : (o : Option ℕ) → is_valid (or_zero o) ≡ true → o ≡ Some (or_zero o)
@@ -91,7 +91,7 @@ tables F ok = record {
 }
 
 -- words by themselves have the same tables
-pub tables_alone : (rest : Flat) (words : List ℕ) → IsValidFlat (record rest { words = words }) → HasTables (record { words = words; swap = []; pages = []; tables = 0; frames = 0 })
+pub tables_alone : (rest : Flat) (words : List ℕ) → IsValidFlat (record rest { words = words }) → HasTables (flat_of_words words)
 tables_alone rest words ok =
     let all = tables (record rest { words = words }) ok in
     record {

@@ -54,10 +54,10 @@ pub record MayTake (caches : List (List (Option Line))) (b g : ℕ) : Type 0 whe
 -- the board has the block; a block of the page table under its root entry, which is valid, and of which the board has the
 -- block; and one of the root, to be read, from its wired frame.
 pub data IsFilled (F : Flat) (caches : List (List (Option Line))) (b : ℕ) : Layer → Need → ℕ → Place → Type 0 where
-  OfPage : (need : Need) (g : ℕ) (place : Place) → g < table_start → HasBlock caches b (entry_address_of g) → may_fill (word_of F g) need ≡ true → place ≡ user_place (word_of F g) → IsFilled F caches b UserBlock need g place
-  OfTable : (need : Need) (g : ℕ) (place : Place) → table_start ≤ g → g < root_start → HasBlock caches b (entry_address_of g) → is_valid (slice_index F.words (root_word_of g)) ≡ true
+  OfUserBlock : (need : Need) (g : ℕ) (place : Place) → g < table_start → HasBlock caches b (entry_address_of g) → may_fill (word_of F g) need ≡ true → place ≡ user_place (word_of F g) → IsFilled F caches b UserBlock need g place
+  OfPteBlock : (need : Need) (g : ℕ) (place : Place) → table_start ≤ g → g < root_start → HasBlock caches b (entry_address_of g) → is_valid (slice_index F.words (root_word_of g)) ≡ true
       → place ≡ table_place (slice_index F.words (root_word_of g)) → IsFilled F caches b PteBlock need g place
-  OfRoot : (g : ℕ) (place : Place) → root_start ≤ g → g < root_start + 2 ^ 18 → place ≡ root_place g → IsFilled F caches b RootBlock Read g place
+  OfRootBlock : (g : ℕ) (place : Place) → root_start ≤ g → g < root_start + 2 ^ 18 → place ≡ root_place g → IsFilled F caches b RootBlock Read g place
 
 -- cache b lacks the block of g, no owned line stands on its place, and it may be filled from there
 pub record MayFill (F : Flat) (caches : List (List (Option Line))) (b : ℕ) (layer : Layer) (need : Need) (g : ℕ) (place : Place) : Type 0 where

@@ -8,9 +8,13 @@ use Rattle.spur_flat.specs.Blocks.{root_word_of, wired_frame}
 use Rattle.spur_flat.specs.Pager.{word_of}
 use Rattle.spur_bus.specs.Logical.{logical_words}
 
--- the logical memory as a flat state, of which a walk looks at the words alone
+-- a flat state that has these words and nothing else: a walk looks at the words alone
+abbrev pub flat_of_words : List ℕ → Flat
+flat_of_words words = record { words = words; swap = []; pages = []; tables = 0; frames = 0 }
+
+-- the logical memory as a flat state
 abbrev pub logical_flat : List (List (Option Line)) → List ℕ → Flat
-logical_flat caches memory = record { words = logical_words caches memory; swap = []; pages = []; tables = 0; frames = 0 }
+logical_flat caches memory = flat_of_words (logical_words caches memory)
 
 -- the root entry for the page of g: of that page of the table which has the entry of g's page
 abbrev pub root_at : Flat → ℕ → ℕ

@@ -1,5 +1,5 @@
 use Rattle.std.proofs.Common.{◌≡◌, sym, ap, ◌∙◌, arith}
-use Rattle.spur_isa.specs.Word.{word_of, parts_at, instr_at}
+use Rattle.spur_isa.specs.Word.{instr_word, parts_at, instr_at}
 use Rattle.spur_isa.proofs.WordFacts.{instr_again}
 use Rattle.spur_isa.proofs.word.decode.Goals as goal
 use Rattle.spur_isa.proofs.word.decode.Goals.{in_default-via-in-Some+else-encode-word, in_default-via-in_default}
@@ -15,7 +15,7 @@ returns-in_default-clause-only c i h e =
     elim c.in_default.branch [
       | in_default-via-in-Some+else-encode-word w ↦ (
           let same : w.in-Some.instr ≡ i = cc in
-          let encoded = w.encode.ensures.value ∙ ap word_of same ∙ sym e in
+          let encoded = w.encode.ensures.value ∙ ap instr_word same ∙ sym e in
           grind (arith, encoded)
           )
       | in_default-via-in_default w ↦ w.in_default.not-Some i found

@@ -13,9 +13,9 @@ returns-clause-valid c =
     let frame : ℕ = c.args.frame in
     let had : c.page_entry-entry.result ≡ word_of F at = c.page_entry-entry.ensures in
     let free : is_free_frame F frame ≡ true = sym c.is_free.ensures ∙ c.in_ok-held.ensures.passes in
-    let entry : c.resident.result ≡ resident_of frame (protection_of (word_of F at)) =
-    c.resident.ensures ∙ ap (resident_of frame) (c.protection.ensures ∙ ap protection_of had) in
+    let entry : c.brought_in.result ≡ resident_of frame (protection_of (word_of F at)) =
+    c.brought_in.ensures ∙ ap (λ (e : ℕ). resident_of frame (protection_of e)) had in
     let is : c.set_entry.new.self ≡ come_in F at (word_of F at) frame =
-    c.set_entry.ensures ∙ ap (λ (G : Flat). with_entry G at c.resident.result) c.load_page.ensures.change
+    c.set_entry.ensures ∙ ap (λ (G : Flat). with_entry G at c.brought_in.result) c.load_page.ensures.change
     ∙ ap (with_entry (page_loaded F at frame) at) entry in
     subst IsValidFlat (sym is) (valid-come_in F at frame c.requires c.judge.ensures.small c.in_ok-judge.ensures.declared free)
