@@ -2,9 +2,6 @@ pub mod OptionFacts
 pub mod OpenFacts
 pub mod UserFacts
 pub mod MadeFacts
-pub mod BenchFacts
-pub mod BenchRoom
-pub mod MachineFacts
 pub mod FetchFacts
 pub mod PlaceFacts
 pub mod WriteFacts

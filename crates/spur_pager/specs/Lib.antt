@@ -1,7 +1,6 @@
 pub mod View
 pub mod Stand
 pub mod Counts
-pub mod Bench
 pub mod Acts
 pub mod Service
 pub mod Room

@@ -73,8 +73,8 @@ fn flush_cache<T: HasCache, B: Backing>(
     }
 }
 
-/// The first byte of the block that the line at a place holds.
-fn block_at(cache: &Cache, number: u16) -> GlobalAddr
+/// The first byte of the block that the line at a place holds, where one stands.
+pub fn block_at(cache: &Cache, number: u16) -> GlobalAddr
     requires { IsSome (line_at cache.now number) }
     ensures { option_map (λ line. block_address line.tag) (line_at cache.now number) ≡ Some result }
 {

@@ -9,8 +9,6 @@
 //! whose access faulted, which first has to hold the entry's block alone. This pager is this project's own.
 #![tactic(auto)]
 
-#[cfg(test)]
-mod bench;
 mod bring;
 mod change;
 mod clock;
@@ -23,16 +21,13 @@ mod mark;
 mod missing;
 mod page;
 mod put;
-#[cfg(test)]
-mod runs;
 mod serving;
 mod standing;
 mod store;
-#[cfg(test)]
-mod tests;
 mod turn_laws;
 
 pub use fault::ServeFault;
+pub use flush::block_at;
 pub use laws::room_is_bounded;
 pub use serving::serve;
 pub use store::Store;

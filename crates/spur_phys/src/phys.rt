@@ -43,6 +43,14 @@ impl Phys {
         Ok(Phys { words })
     }
 
+    /// A memory of these words, which are moved and not copied: whole frames, from 1 to 4096 of them.
+    pub fn from_words(words: Vec<u32>) -> Phys
+        requires { IsMemory words.items }
+        ensures { result ≡ words.items }
+    {
+        Phys { words }
+    }
+
     /// How many frames there are, from 1 to 4096.
     pub fn frames(&self) -> u32
         ensures value { result ≡ length self.now / 1024 }
