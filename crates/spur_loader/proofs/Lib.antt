@@ -1,0 +1,14 @@
+pub mod ListFacts
+pub mod EntryWords
+pub mod RootFacts
+pub mod RootTableFacts
+pub mod OnceFacts
+pub mod PageTableFacts
+pub mod SwapSlotFacts
+pub mod ReadingFacts
+pub mod FaultFacts
+pub mod ValidFacts
+pub mod AgainFacts
+pub mod SegmentFacts
+pub mod OutsideFacts
+pub mod BeginFacts
