@@ -1,0 +1,4 @@
+pub mod Boards
+pub mod Own
+pub mod OwnLaws
+pub mod BudgetLaw
