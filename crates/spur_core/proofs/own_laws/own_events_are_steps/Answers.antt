@@ -1,0 +1,8 @@
+use Rattle.spur_core.proofs.OwnStepFacts.{event-logs-one-answer, event_stepped}
+use Rattle.spur_core.proofs.own_laws.own_events_are_steps.Goals as goal
+
+pub returns-clause-one : goal.returns-clause-one
+returns-clause-one g c = event-logs-one-answer g.C.Cpu.meaning g.C.Cpu.state g.C.Cpu.room
+
+pub returns-clause-stepped : goal.returns-clause-stepped
+returns-clause-stepped g c = event_stepped g.C.Cpu.meaning g.C.Cpu.state g.C.Cpu.room
