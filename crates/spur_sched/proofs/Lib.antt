@@ -1,0 +1,5 @@
+pub mod PickFacts
+pub mod StepFacts
+pub mod LeftFacts
+pub mod FollowFacts
+pub mod RoundFacts

@@ -1,0 +1,3 @@
+pub mod Picks
+pub mod Followed
+pub mod Rounds
