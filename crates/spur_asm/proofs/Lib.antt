@@ -22,7 +22,6 @@ pub mod MayStand
 pub mod ItemDrafts
 pub mod BoardLabels
 pub mod ItemLabels
-pub mod LoadableLaw
 pub mod TextLines
 pub mod ItemLines
 pub mod ItemSections

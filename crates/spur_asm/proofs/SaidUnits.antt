@@ -114,7 +114,7 @@ said_unit text unit said =
     record {
       some_board = said.some_board;
       few_boards = said.few_boards;
-      few_pages = (let few = said.loadable.few_pages in omega arith);
+      few_pages = said.few_pages;
       few_words = said.few_words;
       boards = All-from_recursion IsBoard unit.boards (boards_fit said.parts unit.boards (items_of_parts said.parts split.1) said.boards);
       pages = All-from_recursion IsPage unit.pages (subst (AllByRecursion IsPage) (sym said.pages) (all_kept IsPage page_text_in page_kept items all));

@@ -1,5 +1,5 @@
 -- The unit that is read of a text is the one that the text says.
-use Rattle.std.proofs.Common.{◌≡◌, ◌≢◌, ℕ, ◌+◌, ◌≤◌, Bool, true, false, if◌then◌else◌, List, [], ◌∷◌, ◌++◌, length, Option, Some, None, Result, Ok, Err, refl, sym, ap, ◌∙◌, arith, slice_index_or, subst}
+use Rattle.std.proofs.Common.{◌≡◌, ◌≢◌, ℕ, ◌+◌, ◌≤◌, Bool, true, false, if◌then◌else◌, List, [], ◌∷◌, ◌++◌, length, Option, Some, Result, Ok, Err, refl, sym, ap, ◌∙◌, arith, slice_index_or, subst}
 use Rattle.std.specs.List.{All, AllByRecursion, AllZip, filter_map}
 use Rattle.std.specs.Option.{is_some, option_to_list}
 use Rattle.std.proofs.lemmas.List.{length-map}
@@ -11,7 +11,6 @@ use Rattle.spur_object.specs.declared.unit.Unit as units
 use Rattle.spur_asm.specs.Item.{Item, Board, SpellsLine}
 use Rattle.spur_asm.specs.Section.{page_text_in, word_text_in}
 use Rattle.spur_asm.specs.Says.{IsAnywhere, sections, Says}
-use Rattle.spur_asm.specs.Loadable.{IsLoadable, is_loadable}
 use Rattle.spur_asm.specs.Context.{Placed, first_context, labels_from}
 use Rattle.spur_asm.specs.Draft.{empty_draft, fresh_board, all_boards, unit_in}
 use Rattle.spur_asm.specs.Text.{lines_of, draft_at_end, draft_from, draft_in, unit_from, unit_of}
@@ -28,7 +27,6 @@ use Rattle.spur_asm.proofs.ItemDrafts.{drafted, drafted_append, pages_drafted, w
 use Rattle.spur_asm.proofs.ItemLabels.{placed_items}
 use Rattle.spur_asm.proofs.ItemLines.{joined, labels_are, lines_drafted, AreSpelled, lines_spelled}
 use Rattle.spur_asm.proofs.ItemSections.{split_of, all_sound, all_said, anywhere_whole, boards_counted, stand_if_sound, AreSound, sound_if_stand}
-use Rattle.spur_asm.proofs.LoadableLaw.{loadable_passes, passed_loadable}
 use Rattle.spur_asm.proofs.SaidUnits.{said_unit}
 use Rattle.spur_asm.proofs.TextLines.{are_lines_of, has_lines}
 
@@ -109,9 +107,9 @@ back_if d e false is h = absurd cc
 at_end_back : (d e : Draft) → draft_at_end d ≡ Ok e → (is_some d.begun ≡ true) × (d ≡ e)
 at_end_back d e h = back_if d e (is_some d.begun) refl h
 
-unit_read : (text : List ℕ) (d : Draft) → draft_in (lines_of text) ≡ Ok d → is_loadable (unit_in d) ≡ true → unit_of text ≡ Some (unit_in d)
+unit_read : (text : List ℕ) (d : Draft) → draft_in (lines_of text) ≡ Ok d → unit_of text ≡ Some (unit_in d)
 unfolding unit_of
-unit_read text d read passes = ap unit_from read ∙ ap (λ (b : Bool). if b then Some (unit_in d) else None) passes
+unit_read text d read = ap unit_from read
 
 module _ (law : LineLaw) (next : NextLaw) (label : LabelLaw) where
   said_is_read : (text : List ℕ) (unit : units.Unit) → Says text unit → unit_of text ≡ Some unit
@@ -124,7 +122,7 @@ module _ (law : LineLaw) (next : NextLaw) (label : LabelLaw) where
       let counted : length unit.boards ≡ length said.parts = ap (λ (bs : List BoardText). length bs) boards.1 ∙ length-map said.parts (board_with fresh_board) in
       let pages = ap (λ (ps : List PageText). length ps) said.pages in
       let words = ap (λ (ws : List WordText). length ws) said.words in
-      let few_pages = said.loadable.few_pages in
+      let few_pages = said.few_pages in
       let few_words = said.few_words in
       let few_boards = said.few_boards in
       let some_board = said.some_board in
@@ -139,16 +137,16 @@ module _ (law : LineLaw) (next : NextLaw) (label : LabelLaw) where
       ∙ lines_drafted law next label (placed_items first_context items) first_context empty_draft said.lines said.items said.spelled stand
       ∙ at_end_read d (some_begun items said.front said.parts split (omega arith)) in
       let same : unit_in d ≡ unit = unit_made items said.front said.parts split anywhere whole ∙ unit_is unit said.parts items boards.1 said.pages said.words in
-      unit_read text d read (ap is_loadable same ∙ loadable_passes unit said.loadable) ∙ ap (λ (u : units.Unit). Some u) same
+      unit_read text d read ∙ ap (λ (u : units.Unit). Some u) same
 
   -- ---- what is read is said
 
   says_from : (text : List ℕ) (items : List (List Item)) (front : List Item) (parts : List (List Item)) → AllZip SpellsLine (lines_of text) items → joined items ≡ front ++ sections parts
       → AllByRecursion HasNoBoard parts → AreSound front parts → 1 ≤ length parts
-      → IsLoadable (record { boards = boards_of parts; pages = filter_map page_text_in (joined items); words = filter_map word_text_in (joined items) })
       → Says text (record { boards = boards_of parts; pages = filter_map page_text_in (joined items); words = filter_map word_text_in (joined items) })
-  says_from text items front parts spelled split whole sound some loadable =
+  says_from text items front parts spelled split whole sound some =
       let few : IsFew (behind_items first_context (joined items)) = subst (λ (is : List Item). IsFew (behind_items first_context is)) (sym split) sound.few in
+      let pages = pages_behind first_context (joined items) in
       let words = words_behind first_context (joined items) in
       let boards = boards_all (joined items) front parts split sound.anywhere whole in
       let counted : length (boards_of parts) ≡ length parts = length-map parts (board_with fresh_board) in
@@ -165,12 +163,12 @@ module _ (law : LineLaw) (next : NextLaw) (label : LabelLaw) where
         words = refl;
         some_board = omega arith;
         few_boards = (let le = few.boards in omega arith);
+        few_pages = (let le = few.pages in omega arith);
         few_words = (let le = few.words in omega arith);
-        loadable = loadable;
       }
 
-  says_spelled : (text : List ℕ) (d : Draft) → is_loadable (unit_in d) ≡ true → AreSpelled law next label (labels_from first_context (lines_of text)) first_context empty_draft (lines_of text) d → Says text (unit_in d)
-  says_spelled text d passes h =
+  says_spelled : (text : List ℕ) (d : Draft) → AreSpelled law next label (labels_from first_context (lines_of text)) first_context empty_draft (lines_of text) d → Says text (unit_in d)
+  says_spelled text d h =
       let items : List Item = joined h.items in
       let s = split_of items in
       let split = s.joined in
@@ -180,18 +178,16 @@ module _ (law : LineLaw) (next : NextLaw) (label : LabelLaw) where
       let end = at_end_back (drafted empty_draft items) d h.draft in
       let some = begun_some s.front s.parts sound.anywhere (sym (ap (λ (is : List Item). is_some (drafted empty_draft is).begun) split) ∙ end.0) in
       let same = ap unit_in (sym end.1) ∙ unit_made items s.front s.parts split sound.anywhere s.whole in
-      let loadable = passed_loadable (record { boards = boards_of s.parts; pages = filter_map page_text_in items; words = filter_map word_text_in items }) (sym (ap is_loadable same) ∙ passes) in
-      subst (Says text) (sym same) (says_from text h.items s.front s.parts h.spelled split s.whole sound some loadable)
+      subst (Says text) (sym same) (says_from text h.items s.front s.parts h.spelled split s.whole sound some)
 
-  read_as : (text : List ℕ) (unit : units.Unit) (d : Draft) (b : Bool) → draft_in (lines_of text) ≡ Ok d → is_loadable (unit_in d) ≡ b → (if b then Some (unit_in d) else None) ≡ Some unit → Says text unit
-  read_as text unit d false read passed e = absurd cc
-  read_as text unit d true read passed e =
+  read_as : (text : List ℕ) (unit : units.Unit) (d : Draft) → draft_in (lines_of text) ≡ Ok d → Some (unit_in d) ≡ Some unit → Says text unit
+  read_as text unit d read e =
       let same : unit_in d ≡ unit = cc in
-      subst (Says text) same (says_spelled text d passed (lines_spelled law next label (labels_from first_context (lines_of text)) first_context empty_draft (lines_of text) d read))
+      subst (Says text) same (says_spelled text d (lines_spelled law next label (labels_from first_context (lines_of text)) first_context empty_draft (lines_of text) d read))
 
   read_from : (text : List ℕ) (unit : units.Unit) (r : Result Draft Misfit) → draft_in (lines_of text) ≡ r → unit_from r ≡ Some unit → Says text unit
   read_from text unit (Err m) read e = absurd cc
-  read_from text unit (Ok d) read e = read_as text unit d (is_loadable (unit_in d)) read refl e
+  read_from text unit (Ok d) read e = read_as text unit d read e
 
   read_is_said : (text : List ℕ) (unit : units.Unit) → unit_of text ≡ Some unit → Says text unit
   unfolding unit_of

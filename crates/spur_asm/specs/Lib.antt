@@ -3,7 +3,6 @@ pub mod Token
 pub mod Spelling
 pub mod Item
 pub mod Section
-pub mod Loadable
 pub mod Says
 pub mod Number
 pub mod Lexeme

@@ -4,7 +4,6 @@ use Rattle.std.specs.List.{All, AllZip, filter_map, flat_map}
 use Rattle.spur_object.specs.declared.unit.Unit as units
 use Rattle.spur_asm.specs.Item.{Item, Page, Word, Board, SpellsLine}
 use Rattle.spur_asm.specs.Section.{page_text_in, word_text_in, SaysBoard}
-use Rattle.spur_asm.specs.Loadable.{IsLoadable}
 
 -- ---- lines
 
@@ -47,7 +46,7 @@ pub record HasSections (items front : List Item) (parts : List (List Item)) : Ty
 
 -- The text says the unit. Its lines spell labels and statements. The unit's pages and words are those of the text, wherever they stand. Each
 -- `.board` begins a board, whose labels and instructions are those up to the next; a label on the line of a `.board` stands before it.
--- There are 1 to 12 boards and at most 65,536 words, and the unit can be loaded.
+-- There are 1 to 12 boards, at most 2048 pages and at most 65,536 words.
 pub record Says (text : List ℕ) (unit : units.Unit) : Type 0 where
   pub lines : List (List ℕ)
   pub items : List (List Item)
@@ -61,5 +60,5 @@ pub record Says (text : List ℕ) (unit : units.Unit) : Type 0 where
   pub words : unit.words ≡ filter_map word_text_in (flat_map (λ line. line) items)
   pub some_board : 1 ≤ length unit.boards
   pub few_boards : length unit.boards ≤ 12
+  pub few_pages : length unit.pages ≤ 2048
   pub few_words : length unit.words ≤ 65536
-  pub loadable : IsLoadable unit

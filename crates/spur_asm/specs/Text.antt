@@ -4,7 +4,6 @@ use Rattle.std.specs.List.{onto_first}
 use Rattle.std.specs.Option.{is_some}
 use Rattle.spur_object.specs.declared.unit.Unit as units
 use Rattle.spur_asm.specs.Bytes.{is_feed}
-use Rattle.spur_asm.specs.Loadable.{is_loadable}
 use Rattle.spur_asm.specs.Context.{Placed, first_context, next_context, labels_from}
 use Rattle.spur_asm.specs.Fields.{◌>>=◌, misfit}
 use Rattle.spur_asm.specs.Line.{statement_of_line}
@@ -42,12 +41,12 @@ GivesDraft (Ok d) read = read ≡ Ok d
 GivesDraft (Err faults.NotYet) read = IsErr read
 GivesDraft (Err faults.NoMemory) read = Unit {0}
 
--- the unit of what was read, if it can be loaded
+-- the unit of what was read
 abbrev pub unit_from : Result Draft Misfit → Option units.Unit
 unit_from (Err m) = None
-unit_from (Ok d) = if is_loadable (unit_in d) then Some (unit_in d) else None
+unit_from (Ok d) = Some (unit_in d)
 
--- the unit of a text, if the text has no fault and its unit can be loaded
+-- the unit of a text, if the text has no fault
 unfoldable pub unit_of : List ℕ → Option units.Unit
 unit_of text = unit_from (draft_in (lines_of text))
 

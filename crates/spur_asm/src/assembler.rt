@@ -3,6 +3,7 @@ ghost use Rattle.std.specs.Prelude.{◌≡◌, Err, IfOk, map};
 ghost use Rattle.spur_asm.specs.Context.{first_context, placed_of};
 ghost use Rattle.spur_asm.specs.Draft.{empty_draft};
 ghost use Rattle.spur_asm.specs.Says.{Says};
+ghost use Rattle.spur_object.specs.Limits.{IsUnit};
 ghost use Rattle.spur_object.specs.declared.unit.Unit as units;
 ghost use Rattle.spur_asm.specs.Text.{draft_from, lines_of, unit_of, GivesDraft, GivesUnit};
 
@@ -10,7 +11,7 @@ use crate::draft::Draft;
 use crate::fault::AsmFault;
 use crate::label::Label;
 use crate::statement::Context;
-use crate::{line, lines, loadable};
+use crate::{line, lines};
 use spur_object::Unit;
 use std::alloc::Global;
 
@@ -43,9 +44,6 @@ fn read(alloc: Global, text: &[u8]) -> Result<Unit, AsmFault>
     let labels = lines::labels(alloc, text)?;
     let draft = draft_of(alloc, labels.as_slice(), text)?;
     let unit = draft.into_unit()?;
-    if !loadable::is_loadable(&unit) {
-        return Err(AsmFault::NotYet);
-    }
     Ok(unit)
 }
 
@@ -53,12 +51,12 @@ fn read(alloc: Global, text: &[u8]) -> Result<Unit, AsmFault>
 /// leading `.` and `:`, and an optional statement: one of the 25 instructions, or `.page S P W` (segment, page of it,
 /// protection), `.word S O V` (segment, byte offset in it, value), `.board` or `.seg A B C D` (the board's segment
 /// registers, which are 0, 1, 2 and 3 without it). A `;` begins a comment. There are 1 to 12 boards, at most 4096
-/// instructions a board, and at most 65536 words. So far there are at most 16 pages, none twice and none of segment
-/// 255, which no board names either, and each word lies in a declared page.
+/// instructions a board, at most 2048 pages and at most 65536 words.
 ///
-/// `NotYet` where the text has a fault or goes past what is understood so far, `NoMemory` where memory is wanting.
+/// `NotYet` where the text has a fault, `NoMemory` where memory is wanting.
 pub fn assemble(alloc: Global, text: &[u8]) -> Result<Unit, AsmFault>
     ensures ok { IfOk result (λ unit. Says text.now unit) }
+    ensures limits { IfOk result IsUnit }
     ensures not_yet { result ≡ Err AsmFault.NotYet → (unit : units.Unit) → Says text.now unit → ⊥ }
 {
     let answer = read(alloc, text);

@@ -6,7 +6,7 @@ use thiserror::Error;
 /// Why a text was not assembled.
 #[derive(Clone, Copy, Debug, PartialEq, Eq, Error)]
 pub enum AsmFault {
-    /// The text has a fault, or goes past what is understood so far.
+    /// The text has a fault.
     #[error("not yet")]
     NotYet,
 

@@ -15,7 +15,6 @@ mod label;
 pub mod laws;
 mod line;
 mod lines;
-mod loadable;
 mod number;
 mod operand;
 mod statement;

@@ -260,6 +260,13 @@ fn limits_are_reached_and_not_passed(rt: HostRuntime) -> Result<(), Fail> {
     assert_eq!(rt; unit.boards.len(), 1);
     let past = joined(rt.alloc(), full.as_slice(), b"nop\n")?;
     refused(rt.alloc(), past.as_slice())?;
+    // a page may be declared again, which the loader refuses
+    let pages = repeated(rt.alloc(), b".page 255 0 rw\n", 2048)?;
+    let full = joined(rt.alloc(), pages.as_slice(), b".board\n")?;
+    let unit = assemble(rt.alloc(), full.as_slice())?;
+    assert_eq!(rt; unit.pages.len(), 2048);
+    let past = joined(rt.alloc(), full.as_slice(), b".page 0 0 rw\n")?;
+    refused(rt.alloc(), past.as_slice())?;
     for (length, fits) in [(64, true), (65, false)] {
         let name = repeated(rt.alloc(), b"n", length)?;
         let text = joined(rt.alloc(), b".board\n", name.as_slice())?;
@@ -305,11 +312,6 @@ fn what_is_not_understood(rt: HostRuntime) -> Result<(), Fail> {
         b".board\nhalt @\n".as_slice(),
         b".board\nhalt \x80\n".as_slice(),
         b".board\nx: y: halt\n".as_slice(),
-        // what can't be loaded
-        b".page 1 0 rw\n.page 1 0 ro\n.board\n".as_slice(),
-        b".page 255 0 rw\n.board\n".as_slice(),
-        b".page 1 0 rw\n.word 0 0 5\n.board\n".as_slice(),
-        b".board\n.seg 1 2 3 255\n".as_slice(),
     ];
     for text in rows {
         refused(rt.alloc(), text)?;

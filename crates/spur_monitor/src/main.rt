@@ -1,30 +1,20 @@
 //! The program `spur`: it reads an assembly text from standard input, runs its boards, and writes each board's outcome and
 //! registers to standard output.
 //!
-//! `main` only joins the top call to the process: its words, its standard streams and its exit status.
+//! `main` only joins the top call to the process: its words, its standard streams, a swap in memory, and its exit status.
 #![tactic(auto)]
 
-mod board;
-mod machine;
-mod opening;
-mod report;
-#[cfg(test)]
-mod tests;
-mod text;
-mod top;
-mod words;
-
-use report::Status;
 use spur_io::{Sink, SinkStd, SourceStd, put_all};
+use spur_program::{Status, spur_alone};
+use spur_swap::SwapMemory;
 use std::alloc::{Alloc, AllocError, Global};
 use std::env::Env;
 use std::process::ExitCode;
 use std::{env, io};
-use top::spur_alone;
 
 /// What `--help` writes.
 const HELP: &[u8] =
-    b"usage: spur run [--budget N] < TEXT\n\nReads an assembly text from standard input, runs its boards on flat memory with a page table, and writes\neach board's outcome and registers. spur --help and spur --version tell of the program.\n\n--budget N   how many instructions each board may complete, 1 to 250000; without it 100000\n\nexit status: 0 every board halted, 1 some board ended otherwise, 2 words refused, 3 input refused, 4 the\ninput cannot be read, 5 the output cannot be written, 9 out of memory\n";
+    b"usage: spur run [FLAG N] .. < TEXT\n       spur sched START [FLAG N] .. < TEXT\n\nReads an assembly text from standard input, runs its boards over their caches on one bus, and writes each\nboard's outcome and registers. spur --help and spur --version tell of the program.\n\nrun          each board does one instruction in turn, round after round\nsched START  the schedule of the number START, 0 to 18446744073709551615, picks the board of each instruction\n\n--frames N   how many frames of memory hold data, 1 to 3900; without it 256\n--lines N    how many lines each cache has, a power of two from 16 to 4096; without it 4096\n--budget N   how many instructions each board may complete, 1 to 250000; without it 100000\n\nexit status: 0 every board halted, 1 some board ended otherwise, 2 words refused, 3 input refused, 4 the\ninput cannot be read, 5 the output cannot be written, 6 the swap failed before the run, 9 out of memory\n";
 
 /// What `--version` writes.
 const VERSION: &[u8] = b"spur 0.1.0\n";
@@ -79,7 +69,8 @@ fn main(rt: HostRuntime) -> ExitCode {
         Some(text) => tell(&mut sink, text),
         None => {
             let mut source = SourceStd::new(rt.reader());
-            spur_alone(rt.alloc(), &words, &mut source, &mut sink).status
+            let swap = SwapMemory::new(rt.alloc());
+            spur_alone(rt.alloc(), &words, &mut source, &mut sink, swap).status
         }
     };
     ExitCode::from(status.number())

@@ -1,0 +1,30 @@
+use Rattle.spur_program.proofs.AnswerFacts.{fine_reports, ended_reports, input_refused, swap_failed, nothing_put, swap_stays, answers_words, complete, kept}
+use Rattle.spur_program.proofs.top.spur_alone.Goals as goal
+
+pub returns-clause-fine : goal.returns-clause-fine
+returns-clause-fine g c = fine_reports _ _ _ _ _ _ _ _ c.answer-outcome.ensures.way
+
+pub returns-clause-ended : goal.returns-clause-ended
+returns-clause-ended g c = ended_reports _ _ _ _ _ _ _ _ c.answer-outcome.ensures.way
+
+pub returns-clause-refused_words : goal.returns-clause-refused_words
+returns-clause-refused_words g c = answers_words _ _ _ _ _ _ _ _ c.answer-outcome.ensures.way
+
+pub returns-clause-refused_input : goal.returns-clause-refused_input
+returns-clause-refused_input g c = input_refused _ _ _ _ _ _ _ _ c.answer-outcome.ensures.way
+
+pub returns-clause-swap_at_start : goal.returns-clause-swap_at_start
+returns-clause-swap_at_start g c = swap_failed _ _ _ _ _ _ _ _ c.answer-outcome.ensures.way
+
+pub returns-clause-no_memory : goal.returns-clause-no_memory
+returns-clause-no_memory g c = nothing_put _ _ _ _ _ _ _ _ c.answer-outcome.ensures.way
+
+pub returns-clause-untouched : goal.returns-clause-untouched
+returns-clause-untouched g c = swap_stays _ _ _ _ _ _ _ _ c.answer-outcome.ensures.way
+
+pub returns-clause-complete : goal.returns-clause-complete
+returns-clause-complete g c = λ no_read no_write no_swap. complete _ _ _ _ _ _ _ _ c.answer-outcome.ensures.way
+    (λ is. no_read (c.answer-outcome.ensures.read is)) (λ is. no_write (c.answer-outcome.ensures.write is)) no_swap
+
+pub returns-clause-kept : goal.returns-clause-kept
+returns-clause-kept g c = kept _ _ _ _ _ _ _ _ c.answer-outcome.ensures.way

@@ -1,0 +1,8 @@
+pub mod Statuses
+pub mod Words
+pub mod Texts
+pub mod Headline
+pub mod Runs
+pub mod Reports
+pub mod Accepted
+pub mod Answer

@@ -1,0 +1,78 @@
+-- What comes of a run, over boards with any kind of processor.
+use Rattle.std.specs.Prelude.{◌≡◌, ◌≤◌, ◌<◌, ◌+◌, ◌*◌, ℕ, false, List, [], ◌∷◌, length, map}
+use Rattle.spur_swap.specs.Meaning.{Swap}
+use Rattle.spur_flat.specs.declared.entry.Entry.{Entry}
+use Rattle.spur_flat.specs.History.{own_entries}
+use Rattle.spur_cpu.specs.Meaning.{Meaning}
+use Rattle.spur_cpu.specs.After.{begun}
+use Rattle.spur_loader.specs.declared.opening.Opening.{Opening}
+use Rattle.spur_core.specs.declared.begin.BeginFault.{BeginFault}
+use Rattle.spur_core.specs.declared.begin.BeginFault.TheVariants as begin_fault
+use Rattle.spur_core.specs.declared.world.World.{World}
+use Rattle.spur_core.specs.Start.{Start}
+use Rattle.spur_core.specs.Step.{Runner, runners_of}
+use Rattle.spur_sched.specs.Followed.{AreInOrder, IsFollowed, IsScheduled}
+use Rattle.spur_program.specs.declared.run.Ran.{Ran}
+use Rattle.spur_program.specs.declared.run.RunFault.{RunFault}
+use Rattle.spur_program.specs.declared.run.RunFault.TheVariants.{SwapAtStart, NoMemory}
+use Rattle.spur_program.specs.declared.words.Command.{Command}
+use Rattle.spur_program.specs.declared.words.Command.TheVariants.{Run as Rounds, Sched}
+use Rattle.spur_program.specs.Headline.{Run}
+
+-- the beginning of a run of these processors from an opening
+abbrev pub start_from : {C S : Type 0} → (C → S) → Opening → List C → Swap → Start S
+start_from state opening cpus swap =
+    record { flat = opening.flat; segs = opening.segs; options = opening.options; firsts = map state cpus; faults = swap.faults }
+
+-- what boards that have come to their ends, and what they shared, say of a run
+abbrev pub run_of : {C B S : Type 0} → Meaning S → (C → S) → (B → Swap) → Ran C B → Run S
+run_of m state tells ran = record {
+  history = ran.store.history.entries;
+  boards = runners_of m state ran.boards.items;
+  memory = ran.store.phys;
+  swap = (tells ran.store.backing).pages;
+  faults = (tells ran.store.backing).faults;
+}
+
+-- the swap failed before the run: its count rose, and no page was read
+pub record HasFailedAtStart (before now : Swap) : Type 0 where
+  pub rose : before.faults < now.faults
+  pub unread : now.reads ≡ before.reads
+
+-- why boards were not run whose world did not begin
+abbrev pub run_fault : BeginFault → RunFault
+run_fault begin_fault.Swap = SwapAtStart
+run_fault begin_fault.NoMemory = NoMemory
+
+-- ---- the order of the steps
+
+-- the boards as a run begins with them: each at the beginning of its program, with these segment registers and this budget
+abbrev pub runners_from : {S : Type 0} → ℕ → List (List ℕ) → List S → List (Runner S)
+runners_from limit [] firsts = []
+runners_from limit (registers ∷ segs) [] = []
+runners_from limit (registers ∷ segs) (first ∷ firsts) =
+    record { segs = registers; budget = limit; course = begun first; swapped = false } ∷ runners_from limit segs firsts
+
+abbrev pub first_runners : {S : Type 0} → Start S → List (Runner S)
+first_runners start = runners_from start.options.budget start.segs start.firsts
+
+-- Boards have followed the schedule with this start number, from where they stood to where they stand: each step picks a board by it,
+-- which takes one whole instruction, and the steps use up each board's own entries and end with all boards. The entries of the
+-- steps stand one behind the other, and there are at most so many steps.
+pub record IsScheduledRun {S : Type 0} (m : Meaning S) (number most : ℕ) (olds : List (Runner S)) (entries : List Entry) (news : List (Runner S)) : Type 0 where
+  pub followed : IsFollowed m number olds (own_entries entries) news
+  pub order : AreInOrder entries followed.picks
+  pub few : length followed.picks ≤ most
+
+-- the order of a run is that of the command: of `run` none is said, and by `sched` the boards follow the schedule
+abbrev pub FollowsCommand : {S : Type 0} → Meaning S → Command → Start S → Run S → Type 0
+FollowsCommand m Rounds start run = Unit {0}
+FollowsCommand m (Sched number) start run =
+    IsScheduledRun m number (length start.segs * (start.options.budget + 1)) (first_runners start) run.history run.boards
+
+-- the same of a world that was run
+abbrev pub GoesByCommand : {C B S : Type 0} → Meaning S → (C → S) → Command → World C B → World C B → Type 0
+GoesByCommand m state Rounds old new = Unit {0}
+GoesByCommand m state (Sched number) old new =
+    IsScheduled m state number (length old.boards.items * (old.beginning.opening.value.options.budget + 1))
+    old.store.history.entries new.store.history.entries old.boards.items new.boards.items

@@ -1,0 +1,36 @@
+//! Runs of the top call on words and texts.
+
+use spur_io::{SinkSure, SourceSure};
+use spur_program::{Report, spur_alone};
+use spur_swap::SwapMemory;
+use std::alloc::{AllocError, Global};
+
+/// The words of a command line.
+pub(crate) fn words_of(alloc: Global, words: &[&str]) -> Result<Vec<String>, AllocError> {
+    let mut all = Vec::new(alloc);
+    for word in words {
+        all.push(String::from_str(alloc, word)?)?;
+    }
+    Ok(all)
+}
+
+/// The report on a text, with a swap object in memory that does not fail.
+pub(crate) fn report_of(
+    alloc: Global,
+    words: &[&str],
+    text: &[u8],
+) -> Result<Option<Report>, AllocError> {
+    let words = words_of(alloc, words)?;
+    let mut source = SourceSure::new(text.to_vec(alloc)?);
+    let mut sink = SinkSure::new(alloc, 4096)?;
+    Ok(
+        spur_alone(
+            alloc,
+            &words,
+            &mut source,
+            &mut sink,
+            SwapMemory::new(alloc),
+        )
+        .report,
+    )
+}
