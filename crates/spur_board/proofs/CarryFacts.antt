@@ -24,17 +24,17 @@ use Rattle.spur_board.specs.Boards.{Asks, HasDone, HasFaulted, HasRan, IsGoing, 
 use Rattle.spur_board.specs.Own.{ByFault, ByHit, ByItself, IsOwnFault}
 use Rattle.spur_board.specs.OwnLaws.{EventIsAnInstruction}
 
-same_self : (kind : AccessKind) → same_access kind kind ≡ true
+pub same_self : (kind : AccessKind) → same_access kind kind ≡ true
 same_self access.Load = refl
 same_self access.Store = refl
 same_self access.Tas = refl
 
-both_true : (a b : Bool) → a ≡ true → b ≡ true → (a && b) ≡ true
+pub both_true : (a b : Bool) → a ≡ true → b ≡ true → (a && b) ≡ true
 both_true true true h k = refl
 both_true true false h k = absurd cc
 both_true false b h k = absurd cc
 
-if_true : {A : Type 0} (b : Bool) (x y : A) → b ≡ true → (if b then x else y) ≡ x
+pub if_true : {A : Type 0} (b : Bool) (x y : A) → b ≡ true → (if b then x else y) ≡ x
 if_true true x y h = refl
 if_true false x y h = absurd cc
 

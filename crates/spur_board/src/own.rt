@@ -10,18 +10,7 @@ use crate::turn::{BusReason, Turn};
 use spur_addr::{GlobalAddr, global};
 use spur_cpu::{Cpu, Want};
 use spur_flat::{AccessKind, Entry, FaultKind};
-use spur_snoop::Need;
-use spur_walk::{Looked, look};
-
-/// What an access needs of its block: a test-and-set writes, too.
-fn need_for(kind: AccessKind) -> Need
-    ensures { result ≡ need_of kind }
-{
-    match kind {
-        AccessKind::Load => Need::Read,
-        AccessKind::Store | AccessKind::Tas => Need::Write,
-    }
-}
+use spur_walk::{Looked, look, need_for};
 
 impl<C: Cpu> Board<C> {
     ghost use Rattle.spur_board.specs.Boards.{Asks, IsGoing, IsSound};

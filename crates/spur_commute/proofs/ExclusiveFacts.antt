@@ -21,12 +21,12 @@ use Rattle.spur_flat.specs.State.{IsCarried, IsTagged, tags_after}
 use Rattle.spur_flat.specs.StateLaws.{IsAccess}
 use Rattle.spur_flat.specs.Untold.{IsCarriedUntold, IsLike}
 use Rattle.spur_flat.proofs.PieceFacts.{tagged-append}
-use Rattle.spur_flat.proofs.QuietFacts.{tags_same}
+use Rattle.spur_flat.proofs.QuietFacts.{refusal_same, tags_same}
 use Rattle.spur_flat.proofs.StateFacts.{follow-where-each}
 use Rattle.spur_commute.specs.Apart.{read_by, written_by, AreOtherWords, IsAddressed, IsApart, MayPass}
 use Rattle.spur_commute.specs.Commute.{AreCarriedAlike}
 use Rattle.spur_commute.specs.Exclusive.{EachHasAnOwner, ExclusiveCommutes, IsOther, TagsAllowEach, TagsKeepApart}
-use Rattle.spur_commute.proofs.StepFacts.{other_sym, refusal_same}
+use Rattle.spur_commute.proofs.StepFacts.{other_sym}
 use Rattle.spur_commute.proofs.LawFacts.{access-commutes, filter_swaps, own_access, own_behind}
 
 -- the block of a word that may be there is, at a board, in a state that passes a test

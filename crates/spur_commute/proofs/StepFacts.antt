@@ -20,7 +20,7 @@ use Rattle.spur_flat.specs.Needed.{lack_of, lack_in, open_at, open_on, open_in}
 use Rattle.spur_flat.specs.State.{State, step}
 use Rattle.spur_flat.specs.Laws.{address_of}
 use Rattle.spur_flat.specs.StateLaws.{IsAccess}
-use Rattle.spur_flat.proofs.QuietFacts.{tags_same}
+use Rattle.spur_flat.proofs.QuietFacts.{refusal_same, tags_same}
 use Rattle.spur_commute.specs.Apart.{read_by, written_by, AreOtherWords, IsAddressed, IsApart}
 use Rattle.spur_commute.proofs.FlatFacts.{IsPlaced, placed, Put, put, put_of, on_put, MayPut, may_put, word_put, written_is_put, walk_put, unplaced_put, data_put, valid_put, put_swaps}
 
@@ -122,14 +122,6 @@ pub fit_valid : (told : Bool) (F : Flat) (entry : Entry) → IsValidFlat F → I
 fit_valid told F entry ok plain fit =
     subst (λ (G : Flat). IsValidFlat G) (sym (on_put F entry plain.access))
     (valid_put F (put_of entry) ok (may_put F entry plain.access plain.small (fit_but_value told F entry plain.access fit)))
-
--- the tags judge an access without the flat state
-pub refusal_same : (F G : Flat) (T : List (List (Option Tag))) (entry : Entry) → IsAccess entry → tags_refusal F T entry ≡ tags_refusal G T entry
-refusal_same F G T (Load board at value) is = refl
-refusal_same F G T (Store board at value) is = refl
-refusal_same F G T (Tas board at old) is = refl
-refusal_same F G T (Fault board kind access at) is = refl
-refusal_same F G T entry is = absurd is
 
 -- the open entries: each entry looks at those of its own board alone
 open_other : (opened : List (List Entry)) (entry other : Entry) → board_of entry ≢ board_of other → open_at (open_on opened entry) (board_of other) ≡ open_at opened (board_of other)

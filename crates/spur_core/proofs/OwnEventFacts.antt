@@ -61,7 +61,7 @@ use Rattle.spur_core.proofs.PutFacts.{Instructs, kept_good, put_good, seen_with}
 use Rattle.spur_core.proofs.RoundFacts.{nothing_at, one_frugal}
 use Rattle.spur_core.proofs.SameFacts.{stands_same}
 use Rattle.spur_core.proofs.SoundFacts.{good-boards-are-sound}
-use Rattle.spur_core.proofs.TakesFacts.{cache_at, caches_done, caches_stay, done_unswapped}
+use Rattle.spur_core.proofs.TakesFacts.{cache_at, caches_done, caches_stay, completed_unswapped, done_unswapped}
 use Rattle.spur_core.proofs.WayFacts.{way_none}
 
 -- an access that is done is no fetch
@@ -89,16 +89,6 @@ own_fault_kind lines kind at why cause = absurd cause
 -- where the cache denies an access, the answer is the fault of its protection
 denied_answers : (own : List (Option Line)) (b at : ℕ) (kind : AccessKind) (e r : Option ℕ) (looked : Looked) → looked ≡ Denied → answer_of b at (plan_by own at (need_of kind) e r looked) ≡ walked.Fault fault.Protection
 denied_answers own b at kind e r looked is = ap (λ (l : Looked). answer_of b at (plan_by own at (need_of kind) e r l)) is
-
-spent_or_not : (met : Bool) → is_swapped (if met then Some ending.Spent else None) ≡ false
-spent_or_not true = refl
-spent_or_not false = refl
-
--- the swap ends no board that has completed an instruction
-completed_unswapped : (w : Want) (budget retired : ℕ) → is_swapped (ended_at w budget retired) ≡ false
-completed_unswapped Ended budget retired = refl
-completed_unswapped Local budget retired = spent_or_not (retired == budget)
-completed_unswapped (Access kind va value) budget retired = spent_or_not (retired == budget)
 
 module _ {C S : Type 0} (m : Meaning S) (state : C → S) (spare : C → ℕ) where
   -- the swap has ended no board that an event was of

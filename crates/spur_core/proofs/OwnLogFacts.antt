@@ -58,7 +58,7 @@ local_own i (entry.Tas board at old) local is = eq-eqb board i is
 local_own i (entry.Fault board kind access at) local is = eq-eqb board i is
 local_own i e local is = absurd local
 
-logged_own : (i : ℕ) (es : List Entry) → AllByRecursion (IsLogged i) es → IsLogOf i es
+pub logged_own : (i : ℕ) (es : List Entry) → AllByRecursion (IsLogged i) es → IsLogOf i es
 logged_own i [] all = tt
 logged_own i (e ∷ es) all = (local_own i e all.0.local all.0.board, logged_own i es all.1)
 

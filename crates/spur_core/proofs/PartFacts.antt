@@ -47,6 +47,7 @@ use Rattle.spur_core.specs.Parts.{GoodHasItsParts, IsHitNow, IsRightHistory}
 use Rattle.spur_core.specs.Start.{Start, opened_state}
 use Rattle.spur_core.proofs.AskFacts.{some_at}
 use Rattle.spur_core.proofs.GoodFacts.{own_other}
+use Rattle.spur_core.proofs.OwnLogFacts.{are_logs, logged_own, own_all}
 use Rattle.spur_core.proofs.SameFacts.{got_map}
 
 -- the history, where the swap tells its pages
@@ -62,22 +63,6 @@ right_history from w words history told carried =
     swap_told : (p : Option (List ℕ)) → p ≡ Some words → (standing_flat from.flat (record w { pages = p })).swap ≡ words
     swap_told None is = cc
     swap_told (Some ws) is = cc
-
--- an entry of a log is its board's own
-own_local : (i : ℕ) (e : Entry) → IsLocalEntry e → board_of e ≡ i → is_own i e ≡ true
-own_local i (entry.Load board at value) local is = eq-eqb board i is
-own_local i (entry.Store board at value) local is = eq-eqb board i is
-own_local i (entry.Tas board at old) local is = eq-eqb board i is
-own_local i (entry.Fault board kind access at) local is = eq-eqb board i is
-own_local i e local is = absurd local
-
-own_all : (i : ℕ) (es : List Entry) → AllByRecursion (IsLogged i) es → IsLogOf i es
-own_all i [] all = tt
-own_all i (e ∷ es) all = (own_local i e all.0.local all.0.board, own_all i es all.1)
-
-all_own : (i : ℕ) (es : List Entry) → IsLogOf i es → own_entries es i ≡ es
-all_own i [] all = refl
-all_own i (e ∷ es) all = ap (λ (t : Bool). if t then e ∷ own_entries es i else own_entries es i) all.0 ∙ ap (λ (l : List Entry). e ∷ l) (all_own i es all.1)
 
 none_own : (i k : ℕ) (es : List Entry) → i ≢ k → IsLogOf k es → own_entries es i ≡ []
 none_own i k [] apart all = refl
@@ -108,7 +93,7 @@ joined_own {C} k zero (x ∷ xs) b are there =
     let none : k + 0 ≡ k = omega arith in
     own_entries-append x.log.entries (joined_logs (logs_of xs)) (k + 0)
     ∙ ap (λ (es : List Entry). own_entries x.log.entries (k + 0) ++ es) (behind_own (k + 1) (k + 0) xs (omega arith) (rest_from k x xs are))
-    ∙ append-nil (own_entries x.log.entries (k + 0)) ∙ ap (own_entries x.log.entries) none ∙ all_own k x.log.entries (first_from k x xs are) ∙ ap (λ (z : Board C). z.log.entries) same
+    ∙ append-nil (own_entries x.log.entries (k + 0)) ∙ ap (own_entries x.log.entries) none ∙ own_all k x.log.entries (first_from k x xs are) ∙ ap (λ (z : Board C). z.log.entries) same
 joined_own {C} k (suc i) (x ∷ xs) b are there =
     let more : k + suc i ≡ (k + 1) + i = omega arith in
     own_entries-append x.log.entries (joined_logs (logs_of xs)) (k + suc i)
@@ -116,19 +101,12 @@ joined_own {C} k (suc i) (x ∷ xs) b are there =
     ∙ ap (own_entries (joined_logs (logs_of xs))) more ∙ joined_own (k + 1) i xs b (rest_from k x xs are) there
 
 from_logs : {C : Type 0} (bs : List (Board C)) → AreBoardLogs bs → AreFrom 0 bs
-from_logs bs logs i b there = let none : i ≡ 0 + i = omega arith in subst (λ (j : ℕ). IsLogOf j b.log.entries) none (own_all i b.log.entries (logs.each i b there).entries)
+from_logs bs logs i b there = let none : i ≡ 0 + i = omega arith in subst (λ (j : ℕ). IsLogOf j b.log.entries) none (logged_own i b.log.entries (logs.each i b there).entries)
 
 own_log : {C : Type 0} (bs : List (Board C)) (i : ℕ) (b : Board C) → AreBoardLogs bs → slice_get bs i ≡ Some b → own_entries (joined_logs (logs_of bs)) i ≡ b.log.entries
 own_log bs i b logs there =
     let none : i ≡ 0 + i = omega arith in
     ap (own_entries (joined_logs (logs_of bs))) none ∙ joined_own 0 i bs b (from_logs bs logs) there
-
-are_logs : {C : Type 0} (bs : List (Board C)) → AreBoardLogs bs → AreLogs (logs_of bs)
-are_logs {C} bs logs = record {
-  each = λ i log at.
-      let r = got_map (λ (b : Board C). b.log.entries) bs i log at in
-      subst (IsLogOf i) r.is (own_all i r.old.log.entries (logs.each i r.old r.there).entries);
-}
 
 -- what is true of all entries of the logs is true of one log's
 all_log : {C : Type 0} (P : Entry → Type 0) (bs : List (Board C)) (i : ℕ) (b : Board C) → slice_get bs i ≡ Some b → AllByRecursion P (joined_logs (logs_of bs)) → AllByRecursion P b.log.entries

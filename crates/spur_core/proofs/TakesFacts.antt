@@ -26,7 +26,8 @@ use Rattle.spur_core.specs.Programs.{EndsInSwap}
 use Rattle.spur_core.specs.Step.{EndsWithAnswer}
 use Rattle.spur_core.specs.Takes.{Acts, HasTaken, IsAsking, OnlyItsLines, TakesAccess, done_caches}
 use Rattle.spur_core.specs.Tally.{IsFrugal}
-use Rattle.spur_core.proofs.CourseFacts.{done_carried, ended_carried, lens_get, swap_carried}
+use Rattle.spur_board.proofs.CarryFacts.{done_carried, ended_carried}
+use Rattle.spur_core.proofs.CourseFacts.{lens_get, swap_carried}
 
 pub one_at : {A : Type 0} (xs : List A) (i : ℕ) (p q : A) → slice_get xs i ≡ Some p → slice_get xs i ≡ Some q → p ≡ q
 one_at xs i p q h k = cc
@@ -96,6 +97,16 @@ pub lens_board : {C : Type 0} (bs : List (Board C)) → bs ≡ with_caches board
 lens_board [] = refl
 lens_board {C} (b ∷ bs) = ap (λ (xs : List (Board C)). b ∷ xs) (lens_board bs)
 
+spent_or_not : (met : Bool) → is_swapped (if met then Some ending.Spent else None) ≡ false
+spent_or_not true = refl
+spent_or_not false = refl
+
+-- the swap ends no board that has completed an instruction
+pub completed_unswapped : (w : Want) (budget retired : ℕ) → is_swapped (ended_at w budget retired) ≡ false
+completed_unswapped Ended budget retired = refl
+completed_unswapped Local budget retired = spent_or_not (retired == budget)
+completed_unswapped (Access kind va value) budget retired = spent_or_not (retired == budget)
+
 module _ {C S : Type 0} (m : Meaning S) (state : C → S) (spare : C → ℕ) where
   pub asks_now : (olds : List (Board C)) (b at value : ℕ) (kind : AccessKind) (x : Board C) → IsAsking m state spare olds b kind at value → OnlyItsLines olds b x → Asks m state spare b kind at value x
   asks_now olds b at value kind x asking only =
@@ -158,19 +169,6 @@ module _ {C S : Type 0} (m : Meaning S) (state : C → S) (spare : C → ℕ) wh
   some_none h = absurd cc
 
   -- the three outcomes
-  not_swapped_at : (w : Want) (budget retired : ℕ) → is_swapped (ended_at w budget retired) ≡ false
-  not_swapped_at Ended budget retired = refl
-  not_swapped_at Local budget retired = one (retired == budget)
-    where
-      one : (b : Bool) → is_swapped (if b then Some ending.Spent else None) ≡ false
-      one true = refl
-      one false = refl
-  not_swapped_at (Access kind va value) budget retired = one (retired == budget)
-    where
-      one : (b : Bool) → is_swapped (if b then Some ending.Spent else None) ≡ false
-      one true = refl
-      one false = refl
-
   unswapped : (o : Option Ending) → is_swapped o ≡ false → o ≡ Some ending.SwapFault → ⊥
   unswapped o h is = absurd (let r : true ≡ false = sym (ap is_swapped is) ∙ h in cc)
 
@@ -184,7 +182,7 @@ module _ {C S : Type 0} (m : Meaning S) (state : C → S) (spare : C → ℕ) wh
   lined x kind at value = record x { cache = done_lines kind x.cache at value }
 
   pub done_unswapped : (x y : Board C) (value : ℕ) → HasDone m state spare x value y → is_swapped y.ended ≡ false
-  done_unswapped x y value done = ap is_swapped done.ended ∙ not_swapped_at (m.wants (m.answer (state x.cpu) _)) x.budget (x.retired + 1)
+  done_unswapped x y value done = ap is_swapped done.ended ∙ completed_unswapped (m.wants (m.answer (state x.cpu) _)) x.budget (x.retired + 1)
 
   pub done_step : (b at value word : ℕ) (kind : AccessKind) (x y : Board C) → Asks m state spare b kind at value x → HasDone m state spare (lined x kind at value) (done_value kind word value) y → IsStep x y (done_entry kind b at word value)
   done_step b at value word kind x y asks done =

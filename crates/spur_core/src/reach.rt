@@ -15,8 +15,8 @@ use spur_addr::GlobalAddr;
 use spur_cache::HasCache;
 use spur_flat::{AccessKind, Entry, FaultKind};
 use spur_pager::{Store, serve};
-use spur_snoop::Need;
 use spur_swap::Backing;
+use spur_walk::need_for;
 
 /// What came of a turn, before the access is done.
 #[derive(Clone, Copy, Debug, PartialEq, Eq)]
@@ -27,16 +27,6 @@ pub(crate) enum Reached {
     Ends(FaultKind),
     /// A fault was not served, since the swap object failed. Its entry is appended.
     SwapFault,
-}
-
-/// What an access needs of its block: a test-and-set writes, too.
-fn need_for(access: AccessKind) -> Need
-    ensures { result ≡ need_of access }
-{
-    match access {
-        AccessKind::Load => Need::Read,
-        AccessKind::Store | AccessKind::Tas => Need::Write,
-    }
 }
 
 /// Whether a fault ends its board. The pager serves the others.

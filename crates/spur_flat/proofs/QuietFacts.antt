@@ -53,22 +53,12 @@ tags_same F T (SetDirty board at) is = absurd is
 tags_same F T (ClearRef board at) is = absurd is
 
 -- the tags judge an access without the flat state
-refusal_same : (F G : Flat) (T : List (List (Option Tag))) (entry : Entry) → IsAccess entry → tags_refusal F T entry ≡ tags_refusal G T entry
+pub refusal_same : (F G : Flat) (T : List (List (Option Tag))) (entry : Entry) → IsAccess entry → tags_refusal F T entry ≡ tags_refusal G T entry
 refusal_same F G T (Load board at value) is = refl
 refusal_same F G T (Store board at value) is = refl
 refusal_same F G T (Tas board at old) is = refl
 refusal_same F G T (Fault board kind access at) is = refl
-refusal_same F G T (Fill board layer need at) is = absurd is
-refusal_same F G T (Claim board at) is = absurd is
-refusal_same F G T (WriteBack board at) is = absurd is
-refusal_same F G T (Refresh board at) is = absurd is
-refusal_same F G T (BlockFlush board holder at) is = absurd is
-refusal_same F G T (Leave board at) is = absurd is
-refusal_same F G T (PageOut board at) is = absurd is
-refusal_same F G T (PageIn board at frame) is = absurd is
-refusal_same F G T (SetRef board at) is = absurd is
-refusal_same F G T (SetDirty board at) is = absurd is
-refusal_same F G T (ClearRef board at) is = absurd is
+refusal_same F G T entry is = absurd is
 
 needed_none : (lines : ℕ) (opened : List (List Entry)) (entry : Entry) → IsAccess entry → open_at opened (board_of entry) ≡ [] → lack_of lines opened entry ≡ None
 needed_none lines opened (Load board at value) is none = ap (λ (entries : List Entry). lack_in lines entries (role_of (Load board at value))) none

@@ -5,6 +5,10 @@ use thiserror::Error;
 /// The rule that a refused entry breaks.
 #[derive(Clone, Copy, Debug, PartialEq, Eq)]
 pub enum Clause {
+    /// The entry is not what its board's program does next: WANTED and FOUND are the program's and the entry's number of
+    /// an access (0 none, 1 a load, 2 a store, 3 a test-and-set), or else their addresses, or else their stored values.
+    /// A checker of histories tells it; no call of the plain machine does, since it knows no program.
+    Program,
     /// The access may not be answered so: WANTED is the number of an answer that it should have had,
     /// and FOUND that of the entry's, 0 for an access that was done.
     Fault,

@@ -24,7 +24,7 @@ pub use laws::{
     ready_may_stand, served_fault_finds_entry, steps_are_carried, steps_are_few,
     valid_states_have_tables,
 };
-pub use looked::{Looked, look};
+pub use looked::{Looked, look, need_for};
 pub use step::Walked;
 pub use turn_laws::{
     answers_are_carried, entries_are_made, hit_stores, moved_is_modest, plans_ask_as_the_table,

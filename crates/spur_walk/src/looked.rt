@@ -5,9 +5,11 @@ ghost use Rattle.spur_cache.specs.Lines.{found};
 ghost use Rattle.spur_flat.specs.Access.{allows, grants};
 ghost use Rattle.spur_flat.specs.TagRules.{access_of};
 ghost use Rattle.spur_walk.specs.Look.{look_of};
+ghost use Rattle.spur_walk.specs.Laws.{need_of};
 
 use spur_addr::{GlobalAddr, Protection};
 use spur_cache::Cache;
+use spur_flat::AccessKind;
 use spur_snoop::{BlockState, Need};
 
 /// What a cache says of an access, without a look at any table.
@@ -23,6 +25,16 @@ pub enum Looked {
     NeedsClaim,
     /// The cache does not have the block.
     Miss,
+}
+
+/// What an access needs of its block: a test-and-set writes, too.
+pub fn need_for(access: AccessKind) -> Need
+    ensures { result ≡ need_of access }
+{
+    match access {
+        AccessKind::Load => Need::Read,
+        AccessKind::Store | AccessKind::Tas => Need::Write,
+    }
 }
 
 /// What a cache says of an access to the word at `at`.
