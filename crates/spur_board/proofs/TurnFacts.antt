@@ -9,7 +9,7 @@ use Rattle.spur_board.specs.declared.turn.BusReason.{BusReason}
 use Rattle.spur_board.specs.declared.turn.BusReason.TheVariants as reason
 use Rattle.spur_board.specs.declared.turn.Turn.{Turn}
 use Rattle.spur_board.specs.declared.turn.Turn.TheVariants as turn
-use Rattle.spur_board.specs.Own.{HasStepped, HasTurned, IsAway, IsCause, IsFull, LedByEvents, Needs, OwnEvent}
+use Rattle.spur_board.specs.Own.{HasEvent, HasTurned, IsAway, IsCause, IsFull, LedByEvents, Needs, OwnEvent}
 use Rattle.spur_board.specs.OwnLaws.{CauseIsOne}
 use Rattle.spur_board.proofs.EventFacts.{event_sound}
 use Rattle.spur_board.proofs.StepFacts.{events-count}
@@ -28,12 +28,12 @@ module _ {C S : Type 0} (m : Meaning S) (state : C → S) (spare : C → ℕ) wh
         sound = event_sound m state spare now new turning.sound event;
       }
 
-  pub stepped_event : (o : Option BusReason) (old new : Board C) → ((r : BusReason) → o ≡ Some r → ⊥) → HasStepped m state spare old o new → OwnEvent m state spare old new
+  pub stepped_event : (o : Option BusReason) (old new : Board C) → ((r : BusReason) → o ≡ Some r → ⊥) → HasEvent m state spare old o new → OwnEvent m state spare old new
   stepped_event None old new n h = h
   stepped_event (Some r) old new n h = absurd (n r refl)
 
-  pub stepped_needs : (o : Option BusReason) (r : BusReason) (old new : Board C) → o ≡ Some r → HasStepped m state spare old o new → (new ≡ old) × Needs m state spare r old
-  stepped_needs o r old new is h = subst (λ (q : Option BusReason). HasStepped m state spare old q new) is h
+  pub stepped_needs : (o : Option BusReason) (r : BusReason) (old new : Board C) → o ≡ Some r → HasEvent m state spare old o new → (new ≡ old) × Needs m state spare r old
+  stepped_needs o r old new is h = subst (λ (q : Option BusReason). HasEvent m state spare old q new) is h
 
   pub turned_by : (k at_most : ℕ) (old now : Board C) (r : Turn) → IsSound m state spare old → IsTurning k old now → k ≤ at_most → IsCause m state spare at_most old now r → HasTurned m state spare at_most old r now
   turned_by k at_most old now r sound turning few cause =

@@ -114,9 +114,9 @@ module _ {C S : Type 0} (m : Meaning S) (state : C → S) (spare : C → ℕ) wh
   Needs reason.Access b = IsAway b
 
   -- one event, or a reason why there is none
-  abbrev pub HasStepped : Board C → Option BusReason → Board C → Type 0
-  HasStepped old None new = OwnEvent old new
-  HasStepped old (Some reason) new = (new ≡ old) × Needs reason old
+  abbrev pub HasEvent : Board C → Option BusReason → Board C → Type 0
+  HasEvent old None new = OwnEvent old new
+  HasEvent old (Some reason) new = (new ≡ old) × Needs reason old
 
   -- why an own turn of at most so many instructions is over
   abbrev pub IsCause : ℕ → Board C → Board C → Turn → Type 0

@@ -14,7 +14,7 @@ use spur_walk::{Looked, look, need_for};
 
 impl<C: Cpu> Board<C> {
     ghost use Rattle.spur_board.specs.Boards.{Asks, IsGoing, IsSound};
-    ghost use Rattle.spur_board.specs.Own.{HasFallen, HasHit, HasStepped, HasTurned};
+    ghost use Rattle.spur_board.specs.Own.{HasFallen, HasHit, HasEvent, HasTurned};
 
     /// Does an access that hits, where the word stands, and logs it.
     fn hit(&mut self, kind: AccessKind, at: GlobalAddr, value: u32)
@@ -71,7 +71,7 @@ impl<C: Cpu> Board<C> {
     fn access(&mut self, kind: AccessKind, at: GlobalAddr, value: u32) -> Option<BusReason>
         requires sound { IsSound C.meaning C.state C.room self.old }
         requires asks { Asks C.meaning C.state C.room self.old.number kind at value self.old }
-        ensures { HasStepped C.meaning C.state C.room self.old result self.new }
+        ensures { HasEvent C.meaning C.state C.room self.old result self.new }
     {
         if self.log.entries().len() == LOG_ENTRIES {
             return Some(BusReason::FullLog);
@@ -97,7 +97,7 @@ impl<C: Cpu> Board<C> {
     fn step(&mut self) -> Option<BusReason>
         requires sound { IsSound C.meaning C.state C.room self.old }
         requires going { self.old.ended ≡ None }
-        ensures { HasStepped C.meaning C.state C.room self.old result self.new }
+        ensures { HasEvent C.meaning C.state C.room self.old result self.new }
     {
         match self.cpu.want() {
             Want::Local => {

@@ -14,7 +14,7 @@ use Rattle.spur_cpu.specs.Steps.{reach_of}
 use Rattle.spur_loader.specs.Opening.{opening_of}
 use Rattle.spur_loader.proofs.BeginFacts.{accepted_may_begin}
 use Rattle.spur_loader.proofs.ListFacts.{all_at}
-use Rattle.spur_core.specs.Loaded.{AreAtStart, IsAtStart, LoadedMayBegin}
+use Rattle.spur_core.specs.Loaded.{AreAtBeginning, IsAtBeginning, LoadedMayBegin}
 
 -- a processor at the beginning of its code wants something
 wants_first : (reach : Option Reach) → want_for reach ≢ Ended
@@ -25,7 +25,7 @@ opened_wants : (code : List Instr) → plain_wants (opened code) ≢ Ended
 opened_wants code = wants_first (reach_of (instr_of (opened code)) (opened code).registers)
 
 -- a processor that is at the beginning of some board's code is there for each
-at_start : (codes : List (List Instr)) (room : ℕ) (cpus : List PlainCpu) → AreAtStart codes room cpus → (i : ℕ) (cpu : PlainCpu) → slice_get cpus i ≡ Some cpu → IsAtStart (get_or codes i []) room cpu
+at_start : (codes : List (List Instr)) (room : ℕ) (cpus : List PlainCpu) → AreAtBeginning codes room cpus → (i : ℕ) (cpu : PlainCpu) → slice_get cpus i ≡ Some cpu → IsAtBeginning (get_or codes i []) room cpu
 at_start codes room cpus at i cpu there =
     let within = slice_get_within cpus i cpu there in
     let count = at.count in

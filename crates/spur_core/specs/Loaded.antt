@@ -13,19 +13,19 @@ use Rattle.spur_loader.specs.Opening.{opening_of}
 use Rattle.spur_core.specs.Begin.{IsBeginning}
 
 -- a plain processor at the beginning of its code, with room for so many shown values
-pub record IsAtStart (code : List Instr) (room : ℕ) (cpu : PlainCpu) : Type 0 where
+pub record IsAtBeginning (code : List Instr) (room : ℕ) (cpu : PlainCpu) : Type 0 where
   pub state : plain_of cpu ≡ opened code
   pub spare : room ≤ room_of cpu
 
 -- one for each code
-pub record AreAtStart (codes : List (List Instr)) (room : ℕ) (cpus : List PlainCpu) : Type 0 where
+pub record AreAtBeginning (codes : List (List Instr)) (room : ℕ) (cpus : List PlainCpu) : Type 0 where
   pub count : length cpus ≡ length codes
-  pub each : (i : ℕ) (code : List Instr) (cpu : PlainCpu) → slice_get codes i ≡ Some code → slice_get cpus i ≡ Some cpu → IsAtStart code room cpu
+  pub each : (i : ℕ) (code : List Instr) (cpu : PlainCpu) → slice_get codes i ≡ Some code → slice_get cpus i ≡ Some cpu → IsAtBeginning code room cpu
 
 -- a world may begin with the opening of a program for which no fault applies, and with plain processors at the beginning of
 -- its code
 abbrev pub LoadedMayBegin : Type 0
 LoadedMayBegin = (unit : Program) (options : Options) (cpus : List PlainCpu)
     → IsUnit unit → IsOptions options → options.ahead ≡ 0 → load_fault_of unit options ≡ None
-    → AreAtStart (opening_of unit options).code options.budget cpus
+    → AreAtBeginning (opening_of unit options).code options.budget cpus
     → IsBeginning plain plain_of room_of (opening_of unit options) cpus

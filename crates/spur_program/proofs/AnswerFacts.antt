@@ -4,16 +4,20 @@ use Rattle.std.specs.Prelude.{IsSome, IsSomeAnd}
 use Rattle.std.specs.List.{list_all}
 use Rattle.spur_io.specs.Told.{Loses, IsAtEnd, Gains}
 use Rattle.spur_swap.specs.Meaning.{Swap}
+use Rattle.std.specs.Option.{option_map}
+use Rattle.spur_object.specs.declared.unit.Unit.{Unit as Program}
 use Rattle.spur_program.specs.declared.refusal.Refusal.{Refusal}
+use Rattle.spur_program.specs.declared.refusal.Refusal.TheVariants.{Load}
 use Rattle.spur_program.specs.declared.report.Report.{Report}
 use Rattle.spur_program.specs.declared.report.Outcome.{Outcome}
 use Rattle.spur_program.specs.declared.report.Status.{Status}
 use Rattle.spur_program.specs.declared.report.Status.TheVariants as status
 use Rattle.spur_program.specs.declared.words.Task.{Task}
 use Rattle.spur_program.specs.Words.{task_of}
-use Rattle.spur_program.specs.Texts.{report_text, words_line}
-use Rattle.spur_program.specs.Accepted.{IsRead, Whole as All, Front as More, IsLeft, input_refusal}
-use Rattle.spur_program.specs.Answer.{has_halted, status_of, IsWritten, Whole, Front, Nothing, Way, BadWords, NotRead, Refused, Wanting, NotBegun, NotRun, Ran, AnswersWords, HasSwapFault, IsInputRefused, ReportsHalted, WholeOrWanting}
+use Rattle.spur_program.specs.Texts.{refusal_line, report_text, words_line}
+use Rattle.spur_program.specs.Accepted.{IsAccepted, IsRead, IsWhole, Whole as All, Front as More, IsLeft, input_refusal}
+use Rattle.spur_program.proofs.InputFacts.{unit_said}
+use Rattle.spur_program.specs.Answer.{has_halted, status_of, IsWritten, Whole, Front, Nothing, Way, BadWords, NotRead, Refused, Wanting, NotBegun, NotRun, Ran, AnswersRefusal, AnswersWords, HasSwapFault, IsInputRefused, ReportsHalted, WholeOrWanting}
 
 -- ---- the status of a run
 
@@ -175,6 +179,43 @@ module _ {B : Type 0} (tells : B → Swap) (words : List (List ℕ)) (left left_
 
   pub answers_words : IsWay → AnswersWords (task_of words) written written_now outcome
   answers_words way = words_by (task_of words) refl way
+
+  -- ---- a told input that is refused
+
+  -- an accepted text that was read whole is not the told one
+  not_accepted : (text other : List ℕ) (chosen task : Task) (unit : Program) (refusal : Refusal) → task_of words ≡ Ok chosen → left ≡ Some text
+      → IsWhole left left_now other → IsAccepted words other task unit → input_refusal chosen.options text ≡ Some refusal → ⊥
+  not_accepted text other chosen task unit refusal fine told whole accepted why =
+      let one : task ≡ chosen = (let command = accepted.command in cc) in
+      let same : other ≡ text = same_text left left_now text other told whole.given whole.end in
+      let none : input_refusal task.options other ≡ None = unit_said task.options other unit accepted.within accepted.of_text.says ∙ ap (option_map Load) accepted.of_text.loads in
+      let e : Some refusal ≡ None = sym why ∙ sym (ap (input_refusal chosen.options) same) ∙ sym (ap (λ (t : Task). input_refusal t.options other) one) ∙ none in
+      cc
+
+  -- what was read and is refused is the told text, for its reason
+  one_reason : (text other : List ℕ) (chosen task : Task) (refusal reason : Refusal) → task_of words ≡ Ok chosen → task_of words ≡ Ok task → left ≡ Some text
+      → IsRead left left_now other → input_refusal task.options other ≡ Some reason → input_refusal chosen.options text ≡ Some refusal → reason ≡ refusal
+  one_reason text other chosen task refusal reason fine command told read found why =
+      let one : task ≡ chosen = cc in
+      let same : other ≡ text = read_text left left_now text other told read in
+      let e : Some reason ≡ Some refusal = sym found ∙ ap (λ (t : Task). input_refusal t.options other) one ∙ ap (input_refusal chosen.options) same ∙ why in
+      cc
+
+  pub answers_refusal : IsWay → AnswersRefusal words left written written_now outcome
+  answers_refusal (BadWords number bad taken none same put) text chosen refusal fine told why = absurd cc
+  answers_refusal (NotRead task command taken none same failed put) text chosen refusal fine told why = (none, inr failed)
+  answers_refusal (Refused task command other read reason found none same put) text chosen refusal fine told why = (
+    none,
+    inl (subst (λ (r : Refusal). IsWritten (refusal_line r) status.Input outcome.status written written_now)
+        (one_reason text other chosen task refusal reason fine command told read found why) put),
+  )
+  answers_refusal (Wanting task command taken none same wanting put) text chosen refusal fine told why = (none, inl (Nothing wanting put))
+  answers_refusal (NotBegun task unit other whole accepted none failed at put) text chosen refusal fine told why =
+      absurd (not_accepted text other chosen task unit refusal fine told whole accepted why)
+  answers_refusal (NotRun task unit other whole accepted none wanting put) text chosen refusal fine told why =
+      absurd (not_accepted text other chosen task unit refusal fine told whole accepted why)
+  answers_refusal (Ran report given holds) text chosen refusal fine told why =
+      absurd (not_accepted text holds.text chosen holds.task holds.unit refusal fine told holds.whole holds.accepted why)
 
   -- ---- completeness
 

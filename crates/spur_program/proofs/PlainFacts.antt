@@ -12,7 +12,7 @@ use Rattle.spur_cpu.specs.PlainCpus.{plain_of, room_of}
 use Rattle.spur_loader.specs.declared.opening.Opening.{Opening}
 use Rattle.spur_board.specs.declared.board.Board.{Board}
 use Rattle.spur_core.specs.Begin.{IsBeginning}
-use Rattle.spur_core.specs.Loaded.{AreAtStart, IsAtStart}
+use Rattle.spur_core.specs.Loaded.{AreAtBeginning, IsAtBeginning}
 use Rattle.spur_core.specs.Start.{Start}
 use Rattle.spur_core.specs.Step.{runners_of}
 use Rattle.spur_core.proofs.LoadedFacts.{loaded_may_begin}
@@ -34,13 +34,13 @@ got_snoc (z ∷ xs) x y zero e = inr e
 got_snoc (z ∷ xs) x y (suc i) e = elim (got_snoc xs x y i e) [ inl t ↦ inl (ap suc t.0, t.1) | inr h ↦ inr h ]
 
 -- one more processor for one more code
-pub processors_more : (codes : List (List Instr)) (code : List Instr) (room : ℕ) (cpus : List PlainCpu) (cpu : PlainCpu) → AreAtStart codes room cpus
-    → plain_of cpu ≡ opened code → room ≤ room_of cpu → AreAtStart (codes ++ code ∷ []) room (cpus ++ cpu ∷ [])
+pub processors_more : (codes : List (List Instr)) (code : List Instr) (room : ℕ) (cpus : List PlainCpu) (cpu : PlainCpu) → AreAtBeginning codes room cpus
+    → plain_of cpu ≡ opened code → room ≤ room_of cpu → AreAtBeginning (codes ++ code ∷ []) room (cpus ++ cpu ∷ [])
 processors_more codes code room cpus cpu are state spare = record {
   count = (let same = are.count in let more = length-append cpus (cpu ∷ []) in let also = length-append codes (code ∷ []) in omega arith);
   each = λ i c p at there. elim (got_snoc codes code c i at) [
     | inl last ↦ elim (got_snoc cpus cpu p i there) [
-      | inl here ↦ subst (λ (z : List Instr × PlainCpu). IsAtStart z.0 room z.1) (λ k. (last.1 k, here.1 k)) record { state = state; spare = spare }
+      | inl here ↦ subst (λ (z : List Instr × PlainCpu). IsAtBeginning z.0 room z.1) (λ k. (last.1 k, here.1 k)) record { state = state; spare = spare }
       | inr before ↦ absurd (let lt = slice_get_within cpus i p before in let same = are.count in let end = last.0 in omega arith)
     ]
     | inr before ↦ elim (got_snoc cpus cpu p i there) [
@@ -51,24 +51,24 @@ processors_more codes code room cpus cpu are state spare = record {
 }
 
 -- so each is in the first state of its code
-pub states_are : (codes : List (List Instr)) (room : ℕ) (cpus : List PlainCpu) → AreAtStart codes room cpus → map plain_of cpus ≡ map opened codes
+pub states_are : (codes : List (List Instr)) (room : ℕ) (cpus : List PlainCpu) → AreAtBeginning codes room cpus → map plain_of cpus ≡ map opened codes
 states_are [] room [] are = refl
 states_are [] room (cpu ∷ cpus) are = absurd (let same = are.count in omega arith)
 states_are (code ∷ codes) room [] are = absurd (let same = are.count in omega arith)
 states_are (code ∷ codes) room (cpu ∷ cpus) are =
     let first : plain_of cpu ≡ opened code = (are.each 0 code cpu refl refl).state in
-    let others : AreAtStart codes room cpus = record { count = (let same = are.count in omega arith); each = λ i c p at there. are.each (suc i) c p at there } in
+    let others : AreAtBeginning codes room cpus = record { count = (let same = are.count in omega arith); each = λ i c p at there. are.each (suc i) c p at there } in
     let rest : map plain_of cpus ≡ map opened codes = states_are codes room cpus others in
     λ k. first k ∷ rest k
 
 -- a world may begin with a loaded opening, whatever its code is said to be, and processors of its codes
-loaded_begins : (opening : Opening) (cpus : List PlainCpu) → IsLoadedOpening opening → AreAtStart opening.code opening.options.budget cpus → IsBeginning plain plain_of room_of opening cpus
+loaded_begins : (opening : Opening) (cpus : List PlainCpu) → IsLoadedOpening opening → AreAtBeginning opening.code opening.options.budget cpus → IsBeginning plain plain_of room_of opening cpus
 loaded_begins opening cpus loaded are =
     let is = loaded.is in
     subst (λ (o : Opening). IsBeginning plain plain_of room_of o cpus) (sym is)
-    (loaded_may_begin loaded.unit opening.options cpus loaded.limits loaded.range loaded.ahead loaded.loads (subst (λ (o : Opening). AreAtStart o.code opening.options.budget cpus) is are))
+    (loaded_may_begin loaded.unit opening.options cpus loaded.limits loaded.range loaded.ahead loaded.loads (subst (λ (o : Opening). AreAtBeginning o.code opening.options.budget cpus) is are))
 
-pub bare_begins : (opening : Opening) (code : List (List Instr)) (cpus : List PlainCpu) → IsLoadedOpening opening → AreAtStart opening.code opening.options.budget cpus
+pub bare_begins : (opening : Opening) (code : List (List Instr)) (cpus : List PlainCpu) → IsLoadedOpening opening → AreAtBeginning opening.code opening.options.budget cpus
     → IsBeginning plain plain_of room_of (record opening { code = code }) cpus
 bare_begins opening code cpus loaded are =
     let may = loaded_begins opening cpus loaded are in

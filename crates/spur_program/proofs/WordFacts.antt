@@ -10,7 +10,7 @@ use Rattle.spur_program.specs.declared.words.Field.{Field}
 use Rattle.spur_program.specs.declared.words.Field.TheVariants as field
 use Rattle.spur_program.specs.declared.words.Task.{Task}
 use Rattle.spur_program.specs.declared.words.Verb.{Verb}
-use Rattle.spur_program.specs.Words.{may_fill, command_fields, command_named, first_task, flag_fields, next_flag, number_behind, decimal_of, or_offends, task_from, task_of, with_field, with_number, filled_by}
+use Rattle.spur_program.specs.Words.{fits_field, command_fields, command_named, first_task, flag_fields, next_flag, number_behind, decimal_of, or_offends, task_from, task_of, with_field, with_number, filled_by}
 
 -- what a word says that doesn't offend
 said_by : {A B : Type 0} (said : Option A) (number : ℕ) (f : A → Result B ℕ) (y : B) → or_offends said number f ≡ Ok y → (x : A) × (said ≡ Some x) × (f x ≡ Ok y)
@@ -49,7 +49,7 @@ lines_within n is =
     let range = within 16 4096 n parts.0 in
     (counted n (is_power_of_two n) refl range.0 range.1).0 parts.1
 
-filled_in_range : (field : Field) (task : Task) (n : ℕ) → AreInRange task → may_fill field n ≡ true → AreInRange (with_field field task n)
+filled_in_range : (field : Field) (task : Task) (n : ℕ) → AreInRange task → fits_field field n ≡ true → AreInRange (with_field field task n)
 filled_in_range field.Start task n fine is = record { range = fine.range; ahead = fine.ahead }
 filled_in_range field.Frames task n fine is =
     let within_it = within 1 3900 n is in
@@ -72,7 +72,7 @@ filled_in_range field.Budget task n fine is =
       ahead = fine.ahead;
     }
 
-allowed_in_range : (field : Field) (task filled : Task) (n : ℕ) (allowed : Bool) → AreInRange task → may_fill field n ≡ allowed
+allowed_in_range : (field : Field) (task filled : Task) (n : ℕ) (allowed : Bool) → AreInRange task → fits_field field n ≡ allowed
     → (if allowed then Some (with_field field task n) else None) ≡ Some filled → AreInRange filled
 allowed_in_range field task filled n false fine is same = absurd cc
 allowed_in_range field task filled n true fine is same = (let e : with_field field task n ≡ filled = cc in subst_range e (filled_in_range field task n fine is))
@@ -82,7 +82,7 @@ allowed_in_range field task filled n true fine is same = (let e : with_field fie
 
 number_in_range : (field : Field) (task filled : Task) (number : Option ℕ) → AreInRange task → option_and_then (with_number field task) number ≡ Some filled → AreInRange filled
 number_in_range field task filled None fine is = absurd cc
-number_in_range field task filled (Some n) fine is = allowed_in_range field task filled n (may_fill field n) fine refl is
+number_in_range field task filled (Some n) fine is = allowed_in_range field task filled n (fits_field field n) fine refl is
 
 from_in_range : (verb : Verb) (task result : Task) (wanted : List Field) (before words : List (List ℕ)) → AreInRange task → task_from verb task wanted before words ≡ Ok result → AreInRange result
 from_in_range verb task result [] before [] fine is = (let e : task ≡ result = cc in rw (← e) fine)

@@ -51,10 +51,13 @@ input_refusal options text = if nat_lt input_limit (length text) then Some TooLo
 -- none of these, and it is not refused
 pub data IsRefused (options : Options) (text : List ℕ) : Option Refusal → Type 0 where
   IsLong : input_limit < length text → IsRefused options text (Some TooLong)
-  SaysNothing : length text ≤ input_limit → ((unit : Program) → Says text unit → ⊥) → IsRefused options text (Some NotYet)
-  IsNotLoaded : length text ≤ input_limit → (unit : Program) → Says text unit → (why : LoadFault) → load_fault_of unit options ≡ Some why
+  SaysNothing : length text ≤ input_limit → ((unit : Program) → Says text unit → ⊥)
+      → IsRefused options text (Some NotYet)
+  IsNotLoaded : length text ≤ input_limit → (unit : Program) → Says text unit → (why : LoadFault)
+      → load_fault_of unit options ≡ Some why
       → IsRefused options text (Some (Load why))
-  IsLoaded : length text ≤ input_limit → (unit : Program) → Says text unit → load_fault_of unit options ≡ None → IsRefused options text None
+  IsLoaded : length text ≤ input_limit → (unit : Program) → Says text unit → load_fault_of unit options ≡ None
+      → IsRefused options text None
 
 -- the opening of the unit that a text says, which is not refused
 pub record IsOpeningOfText (options : Options) (text : List ℕ) (opening : Opening) : Type 0 where

@@ -68,41 +68,61 @@ pub record IsHeadline (words : List (List ℕ)) (left left_now written written_n
 pub data InputAnswered {B : Type 0} (tells : B → Swap) (text : List ℕ) (task : Task) (written written_now : Option (List ℕ)) (backing : B) (outcome : Outcome B) : Type 0 where
   Reported : (report : Report) (unit : Program) → outcome.report ≡ Some report → IsUnitOf task.options text unit
       → IsReportOf (opening_of unit task.options) task.command (tells backing) (tells outcome.backing) report
-      → IsWritten (report_text report) (status_of report) outcome.status written written_now → InputAnswered tells text task written written_now backing outcome
-  IsRefusedAs : (refusal : Refusal) → input_refusal task.options text ≡ Some refusal → outcome.report ≡ None → outcome.backing ≡ backing
-      → IsWritten (refusal_line refusal) status.Input outcome.status written written_now → InputAnswered tells text task written written_now backing outcome
-  IsUnopened : outcome.report ≡ None → outcome.backing ≡ backing → outcome.status ≡ status.NoMemory → Gains written written_now []
+      → IsWritten (report_text report) (status_of report) outcome.status written written_now
       → InputAnswered tells text task written written_now backing outcome
-  IsUnbegun : (unit : Program) → IsUnitOf task.options text unit → outcome.report ≡ None → HasFailedAtStart (tells backing) (tells outcome.backing)
-      → outcome.status ≡ status.SwapAtStart → Gains written written_now [] → InputAnswered tells text task written written_now backing outcome
-  IsUndone : (unit : Program) → IsUnitOf task.options text unit → outcome.report ≡ None → outcome.status ≡ status.NoMemory → Gains written written_now []
+  IsRefusedAs : (refusal : Refusal) → input_refusal task.options text ≡ Some refusal → outcome.report ≡ None
+      → outcome.backing ≡ backing
+      → IsWritten (refusal_line refusal) status.Input outcome.status written written_now
+      → InputAnswered tells text task written written_now backing outcome
+  IsUnopened : outcome.report ≡ None → outcome.backing ≡ backing → outcome.status ≡ status.NoMemory
+      → Gains written written_now []
+      → InputAnswered tells text task written written_now backing outcome
+  IsUnbegun : (unit : Program) → IsUnitOf task.options text unit → outcome.report ≡ None
+      → HasFailedAtStart (tells backing) (tells outcome.backing)
+      → outcome.status ≡ status.SwapAtStart → Gains written written_now []
+      → InputAnswered tells text task written written_now backing outcome
+  IsUndone : (unit : Program) → IsUnitOf task.options text unit → outcome.report ≡ None
+      → outcome.status ≡ status.NoMemory → Gains written written_now []
       → InputAnswered tells text task written written_now backing outcome
 
 -- ---- the ways in which the call ends: by what it found, with what it answers there
 
 pub data Way {B : Type 0} (tells : B → Swap) (words : List (List ℕ)) (left left_now written written_now : Option (List ℕ)) (backing : B) (outcome : Outcome B) : Type 0 where
   -- the words are not of the table: nothing was taken
-  BadWords : (number : ℕ) → task_of words ≡ Err number → Loses left left_now [] → outcome.report ≡ None → outcome.backing ≡ backing
-      → IsWritten (words_line number) status.Words outcome.status written written_now → Way tells words left left_now written written_now backing outcome
+  BadWords : (number : ℕ) → task_of words ≡ Err number → Loses left left_now [] → outcome.report ≡ None
+      → outcome.backing ≡ backing
+      → IsWritten (words_line number) status.Words outcome.status written written_now
+      → Way tells words left left_now written written_now backing outcome
   -- reading failed: nothing was put
-  NotRead : (task : Task) → task_of words ≡ Ok task → LosesAtMost left left_now (input_limit + 1) → outcome.report ≡ None → outcome.backing ≡ backing
-      → outcome.status ≡ status.ReadFault → Gains written written_now [] → Way tells words left left_now written written_now backing outcome
+  NotRead : (task : Task) → task_of words ≡ Ok task → LosesAtMost left left_now (input_limit + 1)
+      → outcome.report ≡ None → outcome.backing ≡ backing
+      → outcome.status ≡ status.ReadFault → Gains written written_now []
+      → Way tells words left left_now written written_now backing outcome
   -- the input was read, and is refused
-  Refused : (task : Task) → task_of words ≡ Ok task → (text : List ℕ) → IsRead left left_now text → (refusal : Refusal) → input_refusal task.options text ≡ Some refusal
-      → outcome.report ≡ None → outcome.backing ≡ backing → IsWritten (refusal_line refusal) status.Input outcome.status written written_now
+  Refused : (task : Task) → task_of words ≡ Ok task → (text : List ℕ) → IsRead left left_now text
+      → (refusal : Refusal) → input_refusal task.options text ≡ Some refusal
+      → outcome.report ≡ None → outcome.backing ≡ backing
+      → IsWritten (refusal_line refusal) status.Input outcome.status written written_now
       → Way tells words left left_now written written_now backing outcome
   -- memory was wanting before anything was begun: at most one byte more than the limit was taken, and nothing was put
-  Wanting : (task : Task) → task_of words ≡ Ok task → LosesAtMost left left_now (input_limit + 1) → outcome.report ≡ None → outcome.backing ≡ backing
-      → outcome.status ≡ status.NoMemory → Gains written written_now [] → Way tells words left left_now written written_now backing outcome
+  Wanting : (task : Task) → task_of words ≡ Ok task → LosesAtMost left left_now (input_limit + 1)
+      → outcome.report ≡ None → outcome.backing ≡ backing
+      → outcome.status ≡ status.NoMemory → Gains written written_now []
+      → Way tells words left left_now written written_now backing outcome
   -- the input is accepted, and the swap failed when it was made ready: nothing was put
-  NotBegun : (task : Task) (unit : Program) (text : List ℕ) → IsWhole left left_now text → IsAccepted words text task unit → outcome.report ≡ None
-      → HasFailedAtStart (tells backing) (tells outcome.backing) → outcome.status ≡ status.SwapAtStart → Gains written written_now []
+  NotBegun : (task : Task) (unit : Program) (text : List ℕ) → IsWhole left left_now text
+      → IsAccepted words text task unit → outcome.report ≡ None
+      → HasFailedAtStart (tells backing) (tells outcome.backing) → outcome.status ≡ status.SwapAtStart
+      → Gains written written_now []
       → Way tells words left left_now written written_now backing outcome
   -- the input is accepted, and memory was wanting on the way: nothing was put
-  NotRun : (task : Task) (unit : Program) (text : List ℕ) → IsWhole left left_now text → IsAccepted words text task unit → outcome.report ≡ None
-      → outcome.status ≡ status.NoMemory → Gains written written_now [] → Way tells words left left_now written written_now backing outcome
+  NotRun : (task : Task) (unit : Program) (text : List ℕ) → IsWhole left left_now text
+      → IsAccepted words text task unit → outcome.report ≡ None
+      → outcome.status ≡ status.NoMemory → Gains written written_now []
+      → Way tells words left left_now written written_now backing outcome
   -- the text was run
-  Ran : (report : Report) → outcome.report ≡ Some report → IsHeadline words left left_now written written_now (tells backing) (tells outcome.backing) outcome.status report
+  Ran : (report : Report) → outcome.report ≡ Some report
+      → IsHeadline words left left_now written written_now (tells backing) (tells outcome.backing) outcome.status report
       → Way tells words left left_now written written_now backing outcome
 
 -- ---- the causes, one status at a time
@@ -121,6 +141,15 @@ pub record IsInputRefused (words : List (List ℕ)) (left left_now written writt
   pub refusal : Refusal
   pub why : input_refusal task.options text ≡ Some refusal
   pub line : Gains written written_now (refusal_line refusal)
+
+-- where the words are of the table and a told input is refused, no report is given, and the line of its refusal was to be
+-- put; but for a fault in reading
+abbrev pub AnswersRefusal : {B : Type 0} → List (List ℕ) → Option (List ℕ) → Option (List ℕ) → Option (List ℕ) → Outcome B → Type 0
+AnswersRefusal words left written written_now outcome =
+    (text : List ℕ) (task : Task) (refusal : Refusal) → task_of words ≡ Ok task → left ≡ Some text
+    → input_refusal task.options text ≡ Some refusal
+    → (outcome.report ≡ None)
+    × (IsWritten (refusal_line refusal) status.Input outcome.status written written_now ⊎ (outcome.status ≡ status.ReadFault))
 
 -- reading failed only for words of the table, and nothing was put
 pub record HasReadFault {B : Type 0} (words : List (List ℕ)) (written written_now : Option (List ℕ)) (outcome : Outcome B) : Type 0 where
@@ -149,12 +178,14 @@ WholeOrWanting written written_now outcome =
 -- so it is where the words are of the table and the input is told and accepted
 abbrev pub IsComplete : {B : Type 0} → List (List ℕ) → Option (List ℕ) → Option (List ℕ) → Option (List ℕ) → Outcome B → Type 0
 IsComplete words left written written_now outcome =
-    (text : List ℕ) (task : Task) → task_of words ≡ Ok task → left ≡ Some text → input_refusal task.options text ≡ None → WholeOrWanting written written_now outcome
+    (text : List ℕ) (task : Task) → task_of words ≡ Ok task → left ≡ Some text
+    → input_refusal task.options text ≡ None → WholeOrWanting written written_now outcome
 
 -- where the words are of the table and the input is told and accepted, a report is given
 abbrev pub IsReportKept : {B : Type 0} → List (List ℕ) → Option (List ℕ) → Outcome B → Type 0
 IsReportKept words left outcome =
-    (text : List ℕ) (task : Task) → task_of words ≡ Ok task → left ≡ Some text → input_refusal task.options text ≡ None → IsSome outcome.report
+    (text : List ℕ) (task : Task) → task_of words ≡ Ok task → left ≡ Some text
+    → input_refusal task.options text ≡ None → IsSome outcome.report
 
 -- a report is given with the statuses Fine and Ended, may be given with a write fault and with want of memory, and never else
 abbrev pub MayReport : Status → Type 0

@@ -74,7 +74,8 @@ module _ {S : Type 0} (m : Meaning S) where
   pub record IsInProgramOrder (start : Start S) (history : List Entry) (boards : List (Runner S)) : Type 0 where
     pub count : length boards ≡ length start.segs
     pub formed : AllByRecursion (IsFormed (length start.segs)) history
-    pub each : (i : ℕ) (first : S) (board : Runner S) → slice_get start.firsts i ≡ Some first → slice_get boards i ≡ Some board
+    pub each : (i : ℕ) (first : S) (board : Runner S) → slice_get start.firsts i ≡ Some first
+        → slice_get boards i ≡ Some board
         → HasFollowed start i first (own_entries history i) board
 
   -- the swap failed where a page that the next access needs was to be brought in: the last own entry is the fault of it, which is
@@ -93,7 +94,8 @@ module _ {S : Type 0} (m : Meaning S) where
   -- endings: every board has ended, and the swap has ended at most as many as its faults were counted
   pub record HaveEndings (start : Start S) (run : Run S) : Type 0 where
     pub all : AllAreOut run.boards
-    pub swapped : (i : ℕ) (board : Runner S) → slice_get run.boards i ≡ Some board → board.swapped ≡ true → IsStoppedBySwap i (own_entries run.history i) board
+    pub swapped : (i : ℕ) (board : Runner S) → slice_get run.boards i ≡ Some board → board.swapped ≡ true
+        → IsStoppedBySwap i (own_entries run.history i) board
     pub few : length (filter (λ board. board.swapped) run.boards) + start.faults ≤ run.faults
 
   -- ---- all together

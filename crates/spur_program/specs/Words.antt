@@ -20,11 +20,11 @@ texts words = map string_bytes words
 
 -- ---- the table of fields: which numbers may fill a field, and what they set
 
-abbrev pub may_fill : Field → ℕ → Bool
-may_fill field.Start n = nat_lt n (2 ^ 64)
-may_fill field.Frames n = nat_le 1 n && nat_le n 3900
-may_fill field.Lines n = nat_le 16 n && nat_le n 4096 && is_power_of_two n
-may_fill field.Budget n = nat_le 1 n && nat_le n 250000
+abbrev pub fits_field : Field → ℕ → Bool
+fits_field field.Start n = nat_lt n (2 ^ 64)
+fits_field field.Frames n = nat_le 1 n && nat_le n 3900
+fits_field field.Lines n = nat_le 16 n && nat_le n 4096 && is_power_of_two n
+fits_field field.Budget n = nat_le 1 n && nat_le n 250000
 
 abbrev pub with_field : Field → Task → ℕ → Task
 with_field field.Start task n = record task { command = command.Sched n }
@@ -85,7 +85,7 @@ decimal_of word = if nat_lt 0 (length word) && nat_le (length word) 20 then deci
 
 -- the task with the number of a word in a field, where the word is a number that may fill it
 abbrev pub with_number : Field → Task → ℕ → Option Task
-with_number field task n = if may_fill field n then Some (with_field field task n) else None
+with_number field task n = if fits_field field n then Some (with_field field task n) else None
 
 abbrev pub filled_by : Field → Task → List ℕ → Option Task
 filled_by field task word = option_and_then (with_number field task) (decimal_of word)

@@ -1,7 +1,7 @@
 //! Runs of plain processors: one for each board's code, and a row of the report for each board.
 
 ghost use Rattle.std.specs.Prelude.{◌≡◌, IfErr, IfOk, map};
-ghost use Rattle.spur_core.specs.Loaded.{AreAtStart};
+ghost use Rattle.spur_core.specs.Loaded.{AreAtBeginning};
 ghost use Rattle.spur_program.specs.Accepted.{IsLoadedOpening};
 ghost use Rattle.spur_program.specs.Runs.{HasFailedAtStart};
 ghost use Rattle.spur_program.specs.Reports.{IsReportFrom, IsReportOf, row_of};
@@ -32,7 +32,7 @@ fn processors(
     codes: Items<Items<Instr>>,
     budget: u32,
 ) -> Result<Vec<PlainCpu>, AllocError>
-    ensures { IfOk result (λ cpus. AreAtStart codes budget cpus.items) }
+    ensures { IfOk result (λ cpus. AreAtBeginning codes budget cpus.items) }
 {
     let mut cpus = Vec::new(alloc);
     for code in codes.into_vec() {

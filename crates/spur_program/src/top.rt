@@ -5,7 +5,7 @@ ghost use Rattle.spur_io.specs.Faults.{Rose};
 ghost use Rattle.spur_io.specs.Told.{Gains};
 ghost use Rattle.spur_loader.specs.Limits.{IsOptions};
 ghost use Rattle.spur_program.specs.Accepted.{input_limit};
-ghost use Rattle.spur_program.specs.Answer.{AnswersWords, HasReadFault, HasSwapFault, InputAnswered, IsComplete, IsHeadline, IsInputRefused, IsReportKept, IsWritten, MayReport, fault_status, ReportsHalted, Way, has_halted};
+ghost use Rattle.spur_program.specs.Answer.{AnswersRefusal, AnswersWords, HasReadFault, HasSwapFault, InputAnswered, IsComplete, IsHeadline, IsInputRefused, IsReportKept, IsWritten, MayReport, fault_status, ReportsHalted, Way, has_halted};
 ghost use Rattle.spur_program.specs.Answer.{status_of as run_status};
 ghost use Rattle.spur_program.specs.Texts.{refusal_line, report_text, words_line as number_line};
 ghost use Rattle.spur_program.specs.Words.{task_of as task_in, texts};
@@ -246,10 +246,12 @@ pub fn spur_alone<S: Source, K: Sink, B: Backing>(
     ensures ended { result.status ≡ Status.Ended → ReportsHalted false result }
 
     // The words are refused exactly where they are not of the table; the input only where it is too long, says no unit or
-    // can't be loaded.
+    // can't be loaded, and a told one of these always, but for faults in reading and writing and for want of memory.
     ensures refused_words { AnswersWords (task_in (texts words.now)) (K.written sink.old) (K.written sink.new) result }
     ensures refused_input { result.status ≡ Status.Input → IsInputRefused (texts words.now)
         (S.left source.old) (S.left source.new) (K.written sink.old) (K.written sink.new) }
+    ensures refused_told { AnswersRefusal (texts words.now) (S.left source.old)
+        (K.written sink.old) (K.written sink.new) result }
 
     // Reading, writing and making the swap ready failed only where the count of the source, of the sink or of the swap rose.
     ensures read_fault { result.status ≡ Status.ReadFault → Rose (S.faults source.old) (S.faults source.new) }

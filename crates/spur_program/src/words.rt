@@ -6,7 +6,7 @@
 
 ghost use Rattle.std.specs.Prelude.{◌≡◌, ◌^◌, ◌<◌, [], IfOk, IfSome, true};
 ghost use Rattle.spur_loader.specs.Limits.{IsOptions};
-ghost use Rattle.spur_program.specs.Words.{may_fill, command_fields, command_flags, command_named, first_task, flag_among, flag_fields, flag_name, flag_times, next_flag, decimal_of, task_from, task_of, texts, times_in, with_field, filled_by};
+ghost use Rattle.spur_program.specs.Words.{fits_field, command_fields, command_flags, command_named, first_task, flag_among, flag_fields, flag_name, flag_times, next_flag, decimal_of, task_from, task_of, texts, times_in, with_field, filled_by};
 
 use spur_loader::Options;
 
@@ -190,7 +190,7 @@ impl Flag {
 impl Field {
     /// Whether a number may fill the field.
     fn allows(self, number: u128) -> bool
-        ensures { result ≡ may_fill self number }
+        ensures { result ≡ fits_field self number }
     {
         match self {
             Field::Start => number < 1 << 64,
@@ -202,7 +202,7 @@ impl Field {
 
     /// The task with a number in this field.
     fn filled(self, task: Task, number: u128) -> Task
-        requires { may_fill self number ≡ true }
+        requires { fits_field self number ≡ true }
         ensures { result ≡ with_field self task number }
     {
         let mut filled = task;

@@ -22,7 +22,7 @@ use Rattle.spur_core.specs.Step.{EndsWithAnswer, IsStepped, Runner, is_out, runn
 use Rattle.spur_core.proofs.AskFacts.{going_good, same_at}
 use Rattle.spur_core.proofs.GoodFacts.{own_other}
 use Rattle.spur_core.specs.Own.{IsUnended}
-use Rattle.spur_sched.specs.Picks.{IsPrefix, are_out, next_of, picked_board, running_boards}
+use Rattle.spur_sched.specs.Picks.{IsPrefix, are_out, next_number, picked_board, running_boards}
 use Rattle.spur_sched.specs.Followed.{AreInOrder, ArePicks, IsPick, IsScheduled, Pick, own_in}
 use Rattle.spur_sched.proofs.LeftFacts.{all_left, board_out, left_most, outs_same, taken_less}
 use Rattle.spur_sched.proofs.PickFacts.{none_picked}
@@ -68,13 +68,13 @@ order_then es (q ∷ ps) p piece next turns own reaches = record {
   goes_on = order_then next.rest ps p piece next.goes_on turns own reaches;
 }
 
-picks_then : {S : Type 0} (m : Meaning S) (x y : ℕ) (olds mids news : List (Runner S)) (ps : List Pick) (p : Pick) → ArePicks m x olds ps y mids → IsPick m (next_of y) mids p news → ArePicks m x olds (ps ++ p ∷ []) (next_of y) news
+picks_then : {S : Type 0} (m : Meaning S) (x y : ℕ) (olds mids news : List (Runner S)) (ps : List Pick) (p : Pick) → ArePicks m x olds ps y mids → IsPick m (next_number y) mids p news → ArePicks m x olds (ps ++ p ∷ []) (next_number y) news
 picks_then {S} m x y olds mids news [] p are pick = record {
   mid = news;
-  first = subst (λ (z : ℕ × List (Runner S)). IsPick m (next_of z.0) z.1 p news) (λ k. (are.0 k, are.1 k)) pick;
-  rest = (ap next_of are.0, refl);
+  first = subst (λ (z : ℕ × List (Runner S)). IsPick m (next_number z.0) z.1 p news) (λ k. (are.0 k, are.1 k)) pick;
+  rest = (ap next_number are.0, refl);
 }
-picks_then m x y olds mids news (q ∷ ps) p are pick = record { mid = are.mid; first = are.first; rest = picks_then m (next_of x) y are.mid mids news ps p are.rest pick }
+picks_then m x y olds mids news (q ∷ ps) p are pick = record { mid = are.mid; first = are.first; rest = picks_then m (next_number x) y are.mid mids news ps p are.rest pick }
 
 module _ {C S : Type 0} (m : Meaning S) (state : C → S) where
   pub scheduled_none : (start : ℕ) (h : List Entry) (bs : List (Board C)) → IsScheduling m state start start h h bs bs
@@ -89,13 +89,13 @@ module _ {C S : Type 0} (m : Meaning S) (state : C → S) where
       let same : all_left (runners_of m state news) ≡ all_left (set (runners_of m state mids) b (runner_of m state stepped.new)) = ap all_left stepped.boards in
       omega arith
 
-  pub scheduled_then : (start x b : ℕ) (before h k : List Entry) (olds mids news : List (Board C)) → IsScheduling m state start x before h olds mids → picked_board (next_of x) (running_boards (are_out mids)) ≡ Some b
-      → (stepped : IsStepped m state b h k mids news) → stepped.old.ended ≡ None → stepped.old.retired < stepped.old.budget → IsScheduling m state start (next_of x) before k olds news
+  pub scheduled_then : (start x b : ℕ) (before h k : List Entry) (olds mids news : List (Board C)) → IsScheduling m state start x before h olds mids → picked_board (next_number x) (running_boards (are_out mids)) ≡ Some b
+      → (stepped : IsStepped m state b h k mids news) → stepped.old.ended ≡ None → stepped.old.retired < stepped.old.budget → IsScheduling m state start (next_number x) before k olds news
   scheduled_then start x b before h k olds mids news was picked stepped none left =
       let piece : List Entry = stepped.entries in
       let p : Pick = record { board = b; own = own_entries piece b; swapped = is_swapped stepped.new.ended } in
-      let pick : IsPick m (next_of x) (runners_of m state mids) p (runners_of m state news) = record {
-        picked = ap (λ (os : List Bool). picked_board (next_of x) (running_boards os)) (outs_same m state mids) ∙ picked;
+      let pick : IsPick m (next_number x) (runners_of m state mids) p (runners_of m state news) = record {
+        picked = ap (λ (os : List Bool). picked_board (next_number x) (running_boards os)) (outs_same m state mids) ∙ picked;
         old = runner_of m state stepped.old;
         there = slice_get-map (runner_of m state) mids b ∙ ap (option_map (runner_of m state)) stepped.there;
         new = runner_of m state stepped.new;
@@ -117,7 +117,7 @@ module _ {C S : Type 0} (m : Meaning S) (state : C → S) where
       }
 
   -- where no board is picked all have ended
-  pub scheduled_all : (start x budget : ℕ) (before now : List Entry) (olds news : List (Board C)) → IsScheduling m state start x before now olds news → picked_board (next_of x) (running_boards (are_out news)) ≡ None
+  pub scheduled_all : (start x budget : ℕ) (before now : List Entry) (olds news : List (Board C)) → IsScheduling m state start x before now olds news → picked_board (next_number x) (running_boards (are_out news)) ≡ None
       → ((i : ℕ) (b : Board C) → slice_get olds i ≡ Some b → b.budget ≡ budget) → IsScheduled m state start (length olds * (budget + 1)) before now olds news
   scheduled_all start x budget before now olds news was none budgets =
       let few = was.few in
@@ -125,7 +125,7 @@ module _ {C S : Type 0} (m : Meaning S) (state : C → S) where
       record {
         entries = was.entries;
         history = was.history;
-        followed = record { picks = was.picks; last = x; are = was.are; ended = ap running_boards (outs_same m state news) ∙ none_picked (running_boards (are_out news)) (next_of x / 2 ^ 33) none; used = was.used };
+        followed = record { picks = was.picks; last = x; are = was.are; ended = ap running_boards (outs_same m state news) ∙ none_picked (running_boards (are_out news)) (next_number x / 2 ^ 33) none; used = was.used };
         order = was.order;
         few = omega arith;
       }

@@ -7,7 +7,7 @@ use Rattle.spur_flat.specs.History.{own_entries}
 use Rattle.spur_cpu.specs.Meaning.{Meaning}
 use Rattle.spur_board.specs.declared.board.Board.{Board}
 use Rattle.spur_core.specs.Step.{EndsWithAnswer, Runner, TakesInstruction, is_out, runners_of}
-use Rattle.spur_sched.specs.Picks.{next_of, picked_board, running_boards}
+use Rattle.spur_sched.specs.Picks.{next_number, picked_board, running_boards}
 
 -- one pick: a board, the entries of its own by which it goes on, and whether the swap ends it then
 pub record Pick : Type 0 where
@@ -44,7 +44,7 @@ module _ {S : Type 0} (m : Meaning S) where
   -- picks one after the other, by the numbers that follow x; the last of these is y
   abbrev pub ArePicks : ℕ → List (Runner S) → List Pick → ℕ → List (Runner S) → Type 0
   ArePicks x olds [] y news = (y ≡ x) × (news ≡ olds)
-  ArePicks x olds (p ∷ ps) y news = Through (IsPick (next_of x) olds p) (λ mid. ArePicks (next_of x) mid ps y news)
+  ArePicks x olds (p ∷ ps) y news = Through (IsPick (next_number x) olds p) (λ mid. ArePicks (next_number x) mid ps y news)
 
   -- From a start number the picks lead all boards from where they stood to their ends, and use up each board's own
   -- entries.

@@ -4,8 +4,8 @@ use Rattle.spur_flat.specs.declared.entry.Entry.{Entry}
 use Rattle.spur_board.specs.declared.board.Board.{Board}
 
 -- the number after a number
-abbrev pub next_of : ℕ → ℕ
-next_of x = (x * 6364136223846793005 + 1442695040888963407) % 2 ^ 64
+abbrev pub next_number : ℕ → ℕ
+next_number x = (x * 6364136223846793005 + 1442695040888963407) % 2 ^ 64
 
 -- the boards that have not ended, in ascending order, where the first board has the number k: of each it is said
 -- whether it has ended

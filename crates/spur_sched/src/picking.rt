@@ -1,13 +1,13 @@
 //! Which board is next.
 
 ghost use Rattle.std.specs.Prelude.{◌≡◌, ◌≤◌, length, slice_get};
-ghost use Rattle.spur_sched.specs.Picks.{are_out, next_of, picked_board, running_boards};
+ghost use Rattle.spur_sched.specs.Picks.{are_out, next_number, picked_board, running_boards};
 
 use spur_board::Board;
 
 /// The number after a number.
 pub(crate) fn next(x: u64) -> u64
-    ensures { result ≡ next_of x }
+    ensures { result ≡ next_number x }
 {
     x.wrapping_mul(6364136223846793005)
         .wrapping_add(1442695040888963407)

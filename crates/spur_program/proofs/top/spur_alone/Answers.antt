@@ -1,4 +1,4 @@
-use Rattle.spur_program.proofs.AnswerFacts.{fine_reports, ended_reports, input_refused, swap_failed, nothing_put, swap_stays, answers_words, complete, kept}
+use Rattle.spur_program.proofs.AnswerFacts.{fine_reports, ended_reports, input_refused, swap_failed, nothing_put, swap_stays, answers_refusal, answers_words, complete, kept}
 use Rattle.spur_program.proofs.top.spur_alone.Goals as goal
 
 pub returns-clause-fine : goal.returns-clause-fine
@@ -12,6 +12,9 @@ returns-clause-refused_words g c = answers_words _ _ _ _ _ _ _ _ c.answer-outcom
 
 pub returns-clause-refused_input : goal.returns-clause-refused_input
 returns-clause-refused_input g c = input_refused _ _ _ _ _ _ _ _ c.answer-outcome.ensures.way
+
+pub returns-clause-refused_told : goal.returns-clause-refused_told
+returns-clause-refused_told g c = answers_refusal _ _ _ _ _ _ _ _ c.answer-outcome.ensures.way
 
 pub returns-clause-swap_at_start : goal.returns-clause-swap_at_start
 returns-clause-swap_at_start g c = swap_failed _ _ _ _ _ _ _ _ c.answer-outcome.ensures.way
