@@ -16,6 +16,7 @@ pub mod TagPlaces
 pub mod OwnerFacts
 pub mod LikeFacts
 pub mod UntoldFacts
+pub mod WellFormedFacts
 pub mod OnePage
 pub mod TwoPages
 pub mod SwappedPages

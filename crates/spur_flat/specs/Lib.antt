@@ -15,6 +15,7 @@ pub mod TagRules
 pub mod Needed
 pub mod State
 pub mod Untold
+pub mod WellFormed
 pub mod UntoldLaws
 pub mod StateLaws
 pub mod Ownership

@@ -2,6 +2,7 @@
 
 ghost use Rattle.spur_flat.specs.Clean.{LegalStaysClean, NoneValidIsClean, StaysClean};
 ghost use Rattle.spur_flat.specs.Laws.{AfterInPieces, DoneMayBeRead, LegalInPieces, LegalStaysValid, MissIsAllowed, MissIsNeverRefused, MissUnderEntry, OwnInPieces, ReadyIsDone, RefusedUnlessAllowed, StaysValid, WalkFindsEntry};
+ghost use Rattle.spur_flat.specs.WellFormed.{AllowedIsWellFormed, LegalButValues, LegalIsWellFormed};
 
 /// The walk to an address finds the entry of its page, of which validity speaks by the page's number.
 pub fn walk_finds_entry()
@@ -53,4 +54,14 @@ pub fn history_in_pieces()
     ensures after { AfterInPieces }
     ensures legal { LegalInPieces }
     ensures own { OwnInPieces }
+{}
+
+/// An entry that is of boards that are there, at a global address and at the first byte of its block or page, is well
+/// formed, whole, where it is allowed in a valid flat state, whatever value it read: an access that is done is at the first
+/// byte of a word, and a page comes into one of 4096 frames. So is each entry of a history that is legal but for the values
+/// that it read, and a legal history is one.
+pub fn legal_is_well_formed()
+    ensures entry { AllowedIsWellFormed }
+    ensures history { LegalIsWellFormed }
+    ensures but_values { LegalButValues }
 {}

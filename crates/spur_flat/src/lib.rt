@@ -39,8 +39,8 @@ pub use flat::Flat;
 pub use history::History;
 pub use illegal::{Clause, Illegal};
 pub use laws::{
-    done_may_be_read, history_in_pieces, miss_is_allowed, ready_is_done, refused_unless_allowed,
-    stays_clean, stays_valid, walk_finds_entry,
+    done_may_be_read, history_in_pieces, legal_is_well_formed, miss_is_allowed, ready_is_done,
+    refused_unless_allowed, stays_clean, stays_valid, walk_finds_entry,
 };
 pub use ownership_laws::blocks_have_one_owner;
 pub use state_laws::{
