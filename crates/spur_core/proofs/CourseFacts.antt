@@ -42,7 +42,7 @@ module _ {C S : Type 0} (m : Meaning S) (state : C → S) (spare : C → ℕ) wh
       let c : Course S = course_now m state x in
       let g : ℕ = global_of x.segs asks.va in
       ap (carry_entry m x.segs x.budget c) f.is
-      ∙ carry_reads m x.segs x.budget c kind asks.va value (entry.Fault b f.kind kind at) asks.wants (ap course_ending asks.going.not_ended)
+      ∙ carry_reads m state spare x.segs x.budget c kind asks.va value (entry.Fault b f.kind kind at) asks.wants (ap course_ending asks.going.not_ended)
       ∙ if_true (same_access kind kind && at == g) (if is_ending f.kind then Some (stop m x.segs x.budget c f.kind at) else Some c) None (both_true (same_access kind kind) (at == g) (same_self kind) (eq-eqb at g asks.at_is))
       ∙ ap (λ (t : Bool). if t then Some (stop m x.segs x.budget c f.kind at) else Some c) f.served
 
