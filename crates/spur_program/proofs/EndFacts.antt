@@ -39,7 +39,7 @@ use Rattle.spur_core.specs.Step.{Runner, is_out, runner_of, runners_of}
 use Rattle.spur_core.proofs.GoodFacts.{empty_joined}
 use Rattle.spur_core.proofs.PartFacts.{good-has-its-parts}
 use Rattle.spur_core.proofs.SameFacts.{got_map}
-use Rattle.spur_program.specs.declared.run.Ran.{Ran}
+use Rattle.spur_program.specs.declared.run.Finished.{Finished}
 use Rattle.spur_program.specs.Headline.{AllAreOut, HasFollowed, HaveEndings, IsInProgramOrder, IsOfOneMachine, IsRunOf, IsStoppedBySwap, Run}
 use Rattle.spur_sched.specs.Followed.{IsScheduled, still_running}
 use Rattle.spur_sched.specs.Picks.{running_from}
@@ -153,7 +153,7 @@ module _ {C S B : Type 0} (m : Meaning S) (state : C → S) (spare : C → ℕ) 
   come_to out = record { machine = one_machine (tells store.backing).pages refl; order = in_order; endings = ended_all out }
 
   -- and where moreover its caches were written back
-  pub written_back_run : (ran : Ran C B) → AllAreOut runners → ran.store.phys ≡ memory_now → ran.store ≡ record store { phys = ran.store.phys } → OnlyLines board_lens boards ran.boards.items
+  pub written_back_run : (ran : Finished C B) → AllAreOut runners → ran.store.phys ≡ memory_now → ran.store ≡ record store { phys = ran.store.phys } → OnlyLines board_lens boards ran.boards.items
       → IsRunOf m start (run_of m state tells ran)
   written_back_run ran out memory kept only =
       let boards_are : runners ≡ runners_of m state ran.boards.items = sym (runners_kept m state boards ran.boards.items only) in
@@ -276,7 +276,7 @@ module _ {C S B : Type 0} (m : Meaning S) (state : C → S) (tells : B → Swap)
       record { followed = is.followed; order = is.order; few = is.few }
 
   -- the order of a world's run is that of the whole run
-  pub order_followed : (command : Command) (opening : Opening) (cpus : List C) (before : Swap) (old new : World C B) (ran : Ran C B) → GoesByCommand m state command old new
+  pub order_followed : (command : Command) (opening : Opening) (cpus : List C) (before : Swap) (old new : World C B) (ran : Finished C B) → GoesByCommand m state command old new
       → length cpus ≡ length opening.segs → AreNewBoards opening.segs opening.options.lines opening.options.budget cpus old.boards.items → old.beginning.opening.value ≡ opening → old.store.history.entries ≡ []
       → ran.store ≡ record new.store { phys = ran.store.phys } → OnlyLines board_lens new.boards.items ran.boards.items
       → FollowsCommand m command (start_from state opening cpus before) (run_of m state tells ran)

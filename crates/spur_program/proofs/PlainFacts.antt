@@ -18,7 +18,7 @@ use Rattle.spur_core.specs.Step.{runners_of}
 use Rattle.spur_core.proofs.LoadedFacts.{loaded_may_begin}
 use Rattle.spur_program.specs.declared.plain.Reported.{Reported}
 use Rattle.spur_program.specs.declared.report.BoardReport.{BoardReport}
-use Rattle.spur_program.specs.declared.run.Ran.{Ran}
+use Rattle.spur_program.specs.declared.run.Finished.{Finished}
 use Rattle.spur_program.specs.declared.words.Command.{Command}
 use Rattle.spur_program.specs.Accepted.{IsLoadedOpening}
 use Rattle.spur_program.specs.Headline.{IsRunOf, Run}
@@ -92,7 +92,7 @@ abbrev HasCome : Command → Start Plain → Run Plain → Type 0
 HasCome command start run = IsRunOf plain start run × FollowsCommand plain command start run
 
 -- what is reported of a run is the report of it
-report_is : {B : Type 0} (tells : B → Swap) (opening : Opening) (code : List (List Instr)) (command : Command) (cpus : List PlainCpu) (before : Swap) (ran : Ran PlainCpu B) (done : Reported B)
+report_is : {B : Type 0} (tells : B → Swap) (opening : Opening) (code : List (List Instr)) (command : Command) (cpus : List PlainCpu) (before : Swap) (ran : Finished PlainCpu B) (done : Reported B)
     → map plain_of cpus ≡ map opened opening.code → HasCome command (start_from plain_of (record opening { code = code }) cpus before) (run_of plain plain_of tells ran) → IsReportFrom ran done
     → IsReportOf opening command before (tells done.backing) done.report
 report_is tells opening code command cpus before ran done states come from =
@@ -114,7 +114,7 @@ report_is tells opening code command cpus before ran done states come from =
     }
 
 -- so it is where a report was made
-pub report_if-Ok : {B E : Type 0} (tells : B → Swap) (opening : Opening) (code : List (List Instr)) (command : Command) (cpus : List PlainCpu) (before : Swap) (ran : Ran PlainCpu B)
+pub report_if-Ok : {B E : Type 0} (tells : B → Swap) (opening : Opening) (code : List (List Instr)) (command : Command) (cpus : List PlainCpu) (before : Swap) (ran : Finished PlainCpu B)
     (result : Result (Reported B) E) → map plain_of cpus ≡ map opened opening.code → HasCome command (start_from plain_of (record opening { code = code }) cpus before) (run_of plain plain_of tells ran)
     → IfOk result (IsReportFrom ran) → IfOk result (λ done. IsReportOf opening command before (tells done.backing) done.report)
 report_if-Ok tells opening code command cpus before ran (Ok done) states come from = report_is tells opening code command cpus before ran done states come from

@@ -14,7 +14,7 @@ use Rattle.spur_core.specs.Step.{Runner}
 use Rattle.spur_program.specs.declared.plain.Reported.{Reported}
 use Rattle.spur_program.specs.declared.report.BoardReport.{BoardReport}
 use Rattle.spur_program.specs.declared.report.Report.{Report}
-use Rattle.spur_program.specs.declared.run.Ran.{Ran}
+use Rattle.spur_program.specs.declared.run.Finished.{Finished}
 use Rattle.spur_program.specs.declared.words.Command.{Command}
 use Rattle.spur_program.specs.Headline.{IsRunOf, Run}
 use Rattle.spur_program.specs.Runs.{FollowsCommand}
@@ -52,7 +52,7 @@ abbrev pub row_of : Board PlainCpu → BoardReport
 row_of b = record { ending = b.ended; retired = b.retired; registers = (plain_of b.cpu).registers; shown = (plain_of b.cpu).shown }
 
 -- what a report says of boards that have come to their ends, and of what they shared; the swap stays
-pub record IsReportFrom {B : Type 0} (ran : Ran PlainCpu B) (done : Reported B) : Type 0 where
+pub record IsReportFrom {B : Type 0} (ran : Finished PlainCpu B) (done : Reported B) : Type 0 where
   pub boards : done.report.boards ≡ map row_of ran.boards.items
   pub history : done.report.history ≡ ran.store.history.entries
   pub last : done.report.last ≡ ran.store.phys

@@ -12,7 +12,7 @@ use Rattle.spur_core.specs.declared.world.World.{World}
 use Rattle.spur_core.specs.Start.{Start}
 use Rattle.spur_core.specs.Step.{Runner, runners_of}
 use Rattle.spur_sched.specs.Followed.{AreInOrder, IsFollowed, IsScheduled}
-use Rattle.spur_program.specs.declared.run.Ran.{Ran}
+use Rattle.spur_program.specs.declared.run.Finished.{Finished}
 use Rattle.spur_program.specs.declared.run.RunFault.{RunFault}
 use Rattle.spur_program.specs.declared.run.RunFault.TheVariants.{SwapAtStart, NoMemory}
 use Rattle.spur_program.specs.declared.words.Command.{Command}
@@ -25,7 +25,7 @@ start_from state opening cpus swap =
     record { flat = opening.flat; segs = opening.segs; options = opening.options; firsts = map state cpus; faults = swap.faults }
 
 -- what boards that have come to their ends, and what they shared, say of a run
-abbrev pub run_of : {C B S : Type 0} → Meaning S → (C → S) → (B → Swap) → Ran C B → Run S
+abbrev pub run_of : {C B S : Type 0} → Meaning S → (C → S) → (B → Swap) → Finished C B → Run S
 run_of m state tells ran = record {
   history = ran.store.history.entries;
   boards = runners_of m state ran.boards.items;

@@ -8,7 +8,7 @@ ghost use Rattle.spur_program.specs.Reports.{IsReportFrom, IsReportOf, row_of};
 ghost use Rattle.spur_program.specs.declared.run.RunFault.TheVariants.{SwapAtStart};
 
 use crate::report::{BoardReport, Report};
-use crate::run::{Ran, RunFault, RunRefused, run};
+use crate::run::{Finished, NotFinished, RunFault, run};
 use crate::words::Command;
 use spur_board::Board;
 use spur_cpu::PlainCpu;
@@ -61,11 +61,11 @@ fn rows(alloc: Global, boards: Vec<Board<PlainCpu>>) -> Result<Vec<BoardReport>,
 }
 
 /// The report of a run. Want of memory hands the swap back.
-fn report_of<B>(alloc: Global, ran: Ran<PlainCpu, B>) -> Result<Reported<B>, RunRefused<B>>
+fn report_of<B>(alloc: Global, ran: Finished<PlainCpu, B>) -> Result<Reported<B>, NotFinished<B>>
     ensures report { IfOk result (IsReportFrom ran) }
     ensures fault { IfErr result (λ r. r.fault ≡ RunFault.NoMemory) }
 {
-    let Ran { boards, store } = ran;
+    let Finished { boards, store } = ran;
     let Store {
         phys,
         frames: _,
@@ -74,7 +74,7 @@ fn report_of<B>(alloc: Global, ran: Ran<PlainCpu, B>) -> Result<Reported<B>, Run
         ahead: _,
     } = store;
     let Ok(boards) = rows(alloc, boards) else {
-        return Err(RunRefused {
+        return Err(NotFinished {
             fault: RunFault::NoMemory,
             backing,
         });
@@ -96,7 +96,7 @@ pub fn run_plain<B: Backing>(
     opening: Opening,
     backing: B,
     command: Command,
-) -> Result<Reported<B>, RunRefused<B>>
+) -> Result<Reported<B>, NotFinished<B>>
     requires { IsLoadedOpening opening }
     ensures report { IfOk result (λ done.
         IsReportOf opening command (B.meaning backing) (B.meaning done.backing) done.report) }
@@ -110,7 +110,7 @@ pub fn run_plain<B: Backing>(
         options,
     } = opening;
     let Ok(cpus) = processors(alloc, code, options.budget) else {
-        return Err(RunRefused {
+        return Err(NotFinished {
             fault: RunFault::NoMemory,
             backing,
         });

@@ -23,7 +23,7 @@ use std::alloc::{AllocError, Global};
 
 /// Boards that have come to their ends, and what they shared.
 #[derive(Debug)]
-pub struct Ran<C, B> {
+pub struct Finished<C, B> {
     /// The boards, in the order of their numbers.
     pub boards: Vec<Board<C>>,
     /// The memory, to which all caches were written back, the swap, and the history.
@@ -41,13 +41,13 @@ pub enum RunFault {
 
 /// Boards were not run to their ends; the swap is handed back.
 #[derive(Debug)]
-pub struct RunRefused<B> {
+pub struct NotFinished<B> {
     pub fault: RunFault,
     pub backing: B,
 }
 
 /// A world that did not begin.
-fn not_begun<B>(refused: BeginRefused<B>) -> RunRefused<B>
+fn not_begun<B>(refused: BeginRefused<B>) -> NotFinished<B>
     ensures fault { result.fault ≡ run_fault refused.fault }
     ensures backing { result.backing ≡ refused.backing }
 {
@@ -56,7 +56,7 @@ fn not_begun<B>(refused: BeginRefused<B>) -> RunRefused<B>
         BeginFault::Swap => RunFault::SwapAtStart,
         BeginFault::NoMemory => RunFault::NoMemory,
     };
-    RunRefused { fault, backing }
+    NotFinished { fault, backing }
 }
 
 /// The swap of a world, of which the rest is dropped.
@@ -75,7 +75,7 @@ fn backing_of<C: Drop, B>(world: World<C, B>) -> B
 }
 
 /// The boards of a world and what they shared, when all caches were written back to memory.
-fn written_back<C: Cpu, B: Backing>(world: World<C, B>) -> Ran<C, B>
+fn written_back<C: Cpu, B: Backing>(world: World<C, B>) -> Finished<C, B>
     requires good { IsGoodWorld C.meaning C.state C.room B.meaning world }
     requires empty { LogsAreEmpty world.boards.items }
     ensures memory { result.store.phys ≡ logical_of board_lens world.boards.items world.store.phys }
@@ -85,7 +85,7 @@ fn written_back<C: Cpu, B: Backing>(world: World<C, B>) -> Ran<C, B>
     let mut world = world;
     world.finish();
     let (store, boards) = world.into_parts();
-    Ran { boards, store }
+    Finished { boards, store }
 }
 
 /// Runs the boards of a world to their ends, in the order of the command.
@@ -118,7 +118,7 @@ pub fn run<C: Cpu, B: Backing>(
     cpus: Vec<C>,
     backing: B,
     command: Command,
-) -> Result<Ran<C, B>, RunRefused<B>>
+) -> Result<Finished<C, B>, NotFinished<B>>
     requires { IsBeginning C.meaning C.state C.room opening cpus.items }
     ensures ran { IfOk result (λ ran. IsRunOf C.meaning
         (start_from C.state opening cpus.items (B.meaning backing)) (run_of C.meaning C.state B.meaning ran)) }
@@ -133,7 +133,7 @@ pub fn run<C: Cpu, B: Backing>(
     };
     match run_world(&mut world, command) {
         Ok(()) => Ok(written_back(world)),
-        Err(AllocError) => Err(RunRefused {
+        Err(AllocError) => Err(NotFinished {
             fault: RunFault::NoMemory,
             backing: backing_of(world),
         }),

@@ -14,7 +14,7 @@ use crate::input::{NotOpened, opening_of};
 use crate::plain::{Reported, run_plain};
 use crate::refusal::Refusal;
 use crate::report::{BoardReport, Outcome, Report, Status};
-use crate::run::{RunFault, RunRefused};
+use crate::run::{NotFinished, RunFault};
 use crate::text;
 use crate::words::{Task, task_of};
 use spur_board::Ending;
@@ -154,12 +154,12 @@ fn status_of_fault(fault: RunFault) -> Status
 }
 
 /// The answer of a run that did not come to its end: nothing is written.
-fn not_run<B>(refused: RunRefused<B>) -> Outcome<B>
+fn not_run<B>(refused: NotFinished<B>) -> Outcome<B>
     ensures status { result.status ≡ fault_status refused.fault }
     ensures report { result.report ≡ None }
     ensures backing { result.backing ≡ refused.backing }
 {
-    let RunRefused { fault, backing } = refused;
+    let NotFinished { fault, backing } = refused;
     silent(status_of_fault(fault), backing)
 }
 
