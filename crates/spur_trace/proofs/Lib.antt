@@ -1,0 +1,15 @@
+pub mod FrontFacts
+pub mod WordFacts
+pub mod RangeFacts
+pub mod NumberFacts
+pub mod HexFacts
+pub mod PartFacts
+pub mod RoomFacts
+pub mod FieldFacts
+pub mod EntryFacts
+pub mod HeaderFacts
+pub mod LengthFacts
+pub mod PrintFacts
+pub mod FirstLine
+pub mod TraceFacts
+pub mod LawFacts
