@@ -1,0 +1,10 @@
+pub mod ByteFacts
+pub mod StopFacts
+pub mod InstrFacts
+pub mod ShapeFacts
+pub mod UnitFacts
+pub mod CursorFacts
+pub mod ListFacts
+pub mod KindFacts
+pub mod FaultFacts
+pub mod ReadFacts
