@@ -1,0 +1,9 @@
+pub mod Begins
+pub mod Carries
+pub mod Serves
+pub mod Moves
+pub mod Nexts
+pub mod Fits
+pub mod Verdicts
+pub mod Opened
+pub mod Numbers
