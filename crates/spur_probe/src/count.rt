@@ -1,0 +1,51 @@
+//! A probe that counts entries.
+
+ghost use Rattle.std.specs.Prelude.{◌≡◌};
+
+use crate::probe::{Probe, ProbeLine, Wish};
+use spur_flat::Entry;
+use std::marker::Model;
+
+/// Counts the entries that it is shown, up to 2^64 - 1, and wishes no stop. Its number is their count. Contracts see the
+/// count.
+#[derive(Drop)]
+pub struct CountProbe {
+    seen: u64,
+}
+
+impl Model for CountProbe {
+    ghost use Rattle.std.specs.Prelude.{ℕ};
+
+    ghost Value = { ℕ };
+
+    ghost view = { λ p. p.seen };
+}
+
+impl CountProbe {
+    /// A probe that has seen nothing.
+    pub fn new() -> CountProbe
+        ensures { result ≡ 0 }
+    {
+        CountProbe { seen: 0 }
+    }
+}
+
+impl Probe for CountProbe {
+    ghost use Rattle.std.specs.Prelude.{[], ◌∷◌};
+    ghost use Rattle.spur_probe.specs.Rules.{counts, first_number};
+
+    ghost state = { λ seen. seen ∷ [] };
+
+    ghost rule = { λ _. counts };
+
+    ghost reads = { λ _. first_number };
+
+    fn saw(&mut self, _entry: &Entry) -> Wish {
+        self.seen = self.seen.saturating_add(1);
+        Wish::GoOn
+    }
+
+    fn line(&self) -> ProbeLine {
+        ProbeLine { number: self.seen }
+    }
+}
