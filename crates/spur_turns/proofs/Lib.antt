@@ -1,0 +1,16 @@
+pub mod ListFacts
+pub mod StockFacts
+pub mod NumberFacts
+pub mod HoldFacts
+pub mod RuleFacts
+pub mod OwnFacts
+pub mod BusFacts
+pub mod CommitFacts
+pub mod BackFacts
+pub mod SplitFacts
+pub mod EndFacts
+pub mod RoomFacts
+pub mod HandFacts
+pub mod SeatFacts
+pub mod ListedFacts
+pub mod TestFacts

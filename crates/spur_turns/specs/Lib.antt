@@ -1,0 +1,12 @@
+pub mod Pacts
+pub mod Views
+pub mod Room
+pub mod Rule
+pub mod Kinds
+pub mod Hands
+pub mod Shown
+pub mod Seats
+pub mod Answers
+pub mod Ledgers
+pub mod Evens
+pub mod Turned
