@@ -8,7 +8,7 @@ use Rattle.spur_asm.specs.Bytes.{is_blank}
 use Rattle.spur_asm.specs.Token.{Token}
 use Rattle.spur_asm.specs.Lexeme.{Lexeme, lexeme_at, lexemes_from, more_of, begins_word}
 use Rattle.spur_asm.specs.Front.{front_token, behind_front}
-use Rattle.spur_asm.specs.declared.fault.Kind.{Kind}
+use Rattle.spur_asm.specs.declared.fault.AsmKind.{AsmKind}
 
 -- the first bytes, which a token before has taken, count for nothing
 lexemes_behind : (n : ℕ) (w : Bool) (bytes : List ℕ) → lexemes_from n w bytes ≡ lexemes_from 0 w (drop n bytes)
@@ -77,7 +77,7 @@ unblank_first rest some =
     rw (at, here) (stops (omega (arith, length-drop (prefix_len is_blank rest) rest)))
 
 -- the token behind the blanks is the first
-pub takes_first : (w glued word : Bool) (k : ℕ) (rest bytes behind : List ℕ) (token : Result Token Kind) → k ≡ prefix_len is_blank rest → bytes ≡ drop k rest → 0 < length bytes
+pub takes_first : (w glued word : Bool) (k : ℕ) (rest bytes behind : List ℕ) (token : Result Token AsmKind) → k ≡ prefix_len is_blank rest → bytes ≡ drop k rest → 0 < length bytes
     → word ≡ begins_word (get_or bytes 0 0) → glued ≡ ((w && (k == 0)) && word) → token ≡ front_token bytes → behind ≡ behind_front bytes
     → lexemes_from 0 w rest ≡ record { token = token; glued = glued; left = length bytes } ∷ lexemes_from 0 word behind
 takes_first w glued word k rest bytes behind token blanks cut some is_word is_glued is_token is_behind =

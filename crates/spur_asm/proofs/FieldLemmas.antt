@@ -8,7 +8,7 @@ use Rattle.spur_asm.specs.Token.{Token, Name, Number, Mark}
 use Rattle.spur_asm.specs.Item.{register, protection_text, natural}
 use Rattle.spur_asm.specs.Lexeme.{Lexeme}
 use Rattle.spur_asm.specs.Fields.{◌>>=◌, taken, field_at, unwanted, leftover, end_at, mark_in, register_in, protection_in, number_in, natural_in, offset_in, label_in, mark_at, register_at, protection_at, number_at, immediate_at, natural_at, offset_at, label_at}
-use Rattle.spur_asm.specs.declared.fault.Kind.{Kind}
+use Rattle.spur_asm.specs.declared.fault.AsmKind.{AsmKind}
 use Rattle.spur_asm.specs.declared.fault.Misfit.{Misfit}
 use Rattle.spur_asm.proofs.Levels.{AreTokens}
 use Rattle.spur_asm.proofs.ValueLemmas.{bind_ok, mark_is, register_read, register_is, protection_read, protection_is, number_read, number_is, natural_read, natural_is, offset_read, offset_is, label_read, label_is}
@@ -27,18 +27,18 @@ IsFirst lexemes token rest = (tokens : List Token) → AreTokens rest tokens →
 first_as : (lexemes : List Lexeme) (token same : Token) (rest : List Lexeme) → token ≡ same → IsFirst lexemes token rest → IsFirst lexemes same rest
 first_as lexemes token same rest is stands = subst (λ (t : Token). IsFirst lexemes t rest) is stands
 
-field_read : {A B : Type 0} (value_of : Token → Result A Kind) (token : Token) (x : A) (tokens : List Token) (lexemes : List Lexeme) (f : A × List Lexeme → Result B Misfit) (r : Result B Misfit)
+field_read : {A B : Type 0} (value_of : Token → Result A AsmKind) (token : Token) (x : A) (tokens : List Token) (lexemes : List Lexeme) (f : A × List Lexeme → Result B Misfit) (r : Result B Misfit)
     → value_of token ≡ Ok x → AreTokens lexemes (token ∷ tokens) → Onward tokens f x r → (field_at value_of lexemes >>= f) ≡ r
 field_read value_of token x tokens [] f r value are next = absurd are
 field_read value_of token x tokens (one ∷ rest) f r value are next = rw (are.0.token_is, value, are.0.free) (next rest are.1)
 
 -- a field that was read: the token that it is
-record IsField {A : Type 0} (value_of : Token → Result A Kind) (lexemes : List Lexeme) (x : A) (rest : List Lexeme) : Type 0 where
+record IsField {A : Type 0} (value_of : Token → Result A AsmKind) (lexemes : List Lexeme) (x : A) (rest : List Lexeme) : Type 0 where
   token : Token
   value : value_of token ≡ Ok x
   stands : IsFirst lexemes token rest
 
-taken_is : {A : Type 0} (value_of : Token → Result A Kind) (one : Lexeme) (lexemes : List Lexeme) (token : Result Token Kind) (value : Result A Kind) (glued : Bool) (x : A) (rest : List Lexeme)
+taken_is : {A : Type 0} (value_of : Token → Result A AsmKind) (one : Lexeme) (lexemes : List Lexeme) (token : Result Token AsmKind) (value : Result A AsmKind) (glued : Bool) (x : A) (rest : List Lexeme)
     → one.token ≡ token → (token >>= value_of) ≡ value → one.glued ≡ glued → taken (record one { glued = glued }) value lexemes ≡ Ok (x, rest) → IsField value_of (one ∷ lexemes) x rest
 taken_is value_of one lexemes token (Err kind) glued x rest is stood free e = absurd cc
 taken_is value_of one lexemes token (Ok y) true x rest is stood free e = absurd cc
@@ -51,11 +51,11 @@ taken_is {A} value_of one lexemes (Ok token) (Ok y) false x rest is stood free e
       stands = λ tokens are. (record { token_is = is; free = free }, rw (ap (λ (p : A × List Lexeme). p.1) pair) are);
     }
 
-field_is : {A : Type 0} (value_of : Token → Result A Kind) (lexemes : List Lexeme) (x : A) (rest : List Lexeme) → field_at value_of lexemes ≡ Ok (x, rest) → IsField value_of lexemes x rest
+field_is : {A : Type 0} (value_of : Token → Result A AsmKind) (lexemes : List Lexeme) (x : A) (rest : List Lexeme) → field_at value_of lexemes ≡ Ok (x, rest) → IsField value_of lexemes x rest
 field_is value_of [] x rest e = absurd cc
 field_is value_of (one ∷ lexemes) x rest e = taken_is value_of one lexemes one.token (one.token >>= value_of) one.glued x rest refl refl refl e
 
-field_then : {A B : Type 0} (value_of : Token → Result A Kind) (lexemes : List Lexeme) (f : A × List Lexeme → Result B Misfit) (y : B) → (field_at value_of lexemes >>= f) ≡ Ok y
+field_then : {A B : Type 0} (value_of : Token → Result A AsmKind) (lexemes : List Lexeme) (f : A × List Lexeme → Result B Misfit) (y : B) → (field_at value_of lexemes >>= f) ≡ Ok y
     → (P : Type 0) → ((x : A) (token : Token) (rest : List Lexeme) → value_of token ≡ Ok x → IsFirst lexemes token rest → f (x, rest) ≡ Ok y → P) → P
 field_then value_of lexemes f y e P next =
     let s = bind_ok (field_at value_of lexemes) f y e in
@@ -68,7 +68,7 @@ pub end_read : {A : Type 0} (value : A) (lexemes : List Lexeme) → AreTokens le
 end_read value [] are = refl
 end_read value (one ∷ lexemes) are = absurd are
 
-leftover_fails : {A : Type 0} (one : Lexeme) (token : Result Token Kind) (b : A) → leftover one (token >>= unwanted) ≡ Ok b → ⊥
+leftover_fails : {A : Type 0} (one : Lexeme) (token : Result Token AsmKind) (b : A) → leftover one (token >>= unwanted) ≡ Ok b → ⊥
 leftover_fails one (Ok token) b e = cc
 leftover_fails one (Err kind) b e = cc
 

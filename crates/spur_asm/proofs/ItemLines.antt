@@ -69,7 +69,7 @@ by_line : (d : Draft) (s : Option Statement) → fold with_statement d (option_t
 by_line d None = refl
 by_line d (Some s) = refl
 
-line_drafted : (d : Draft) (items : List Item) (s : Option Statement) → filter_map statement_of items ≡ option_to_list s → drafted d items ≡ with_line_statement d s
+pub line_drafted : (d : Draft) (items : List Item) (s : Option Statement) → filter_map statement_of items ≡ option_to_list s → drafted d items ≡ with_line_statement d s
 line_drafted d items s says = by_statements d items ∙ ap (λ (ss : List Statement). fold with_statement d ss) says ∙ by_line d s
 
 -- ---- items that stand, one line after the other

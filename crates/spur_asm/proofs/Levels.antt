@@ -14,7 +14,7 @@ use Rattle.spur_asm.specs.Context.{Placed, leading_label, label_fault, misplacem
 use Rattle.spur_asm.specs.Statements.{fields_at}
 use Rattle.spur_asm.specs.Line.{statement_of_line}
 use Rattle.spur_asm.specs.Laws.{ReadsWhatIsSaid}
-use Rattle.spur_asm.specs.declared.fault.Kind.{Kind}
+use Rattle.spur_asm.specs.declared.fault.AsmKind.{AsmKind}
 use Rattle.spur_asm.specs.declared.statement.Context.{Context}
 use Rattle.spur_asm.specs.declared.statement.Operation.{Operation}
 use Rattle.spur_asm.specs.declared.statement.Operation.TheVariants as operations
@@ -38,7 +38,7 @@ abbrev pub TokensLaw : Type 0
 TokensLaw = (line : List ℕ) (tokens : List Token) → SpellsTokens line tokens ↔ AreTokens (lexemes_of line) tokens
 
 -- whether a lexeme is a mark
-abbrev pub is_mark_token : Result Token Kind → Bool
+abbrev pub is_mark_token : Result Token AsmKind → Bool
 is_mark_token (Ok (Mark mark)) = true
 is_mark_token other = false
 

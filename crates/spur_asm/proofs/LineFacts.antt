@@ -1,7 +1,6 @@
 -- The first line of a text, and what is read behind it.
-use Rattle.std.proofs.Common.{◌≡◌, ◌∙◌, refl, sym, ap, ℕ, ◌+◌, ◌≤◌, ◌==◌, false, List, [], ◌∷◌, ◌++◌, length, arith, Option, Some, None, Result, Ok, Err}
+use Rattle.std.proofs.Common.{◌≡◌, ◌∙◌, sym, ap, subst, ℕ, ◌+◌, ◌≤◌, ◌==◌, false, List, [], ◌∷◌, ◌++◌, length, arith, Option, Some, None, Result, Ok, Err}
 use Rattle.std.specs.List.{before_first, after_first, position_or_len}
-use Rattle.std.specs.Result.{IsErrAnd}
 use Rattle.std.proofs.lemmas.Grind.{common_steps}
 use Rattle.std.proofs.lemmas.List.{append_assoc, length-drop}
 use Rattle.spur_asm.specs.Bytes.{is_feed}
@@ -11,13 +10,14 @@ use Rattle.spur_asm.specs.Fields.{◌>>=◌}
 use Rattle.spur_asm.specs.Line.{statement_of_line}
 use Rattle.spur_asm.specs.Step.{step_at}
 use Rattle.spur_asm.specs.Draft.{with_line_statement}
-use Rattle.spur_asm.specs.Text.{lines_of, draft_from, GivesDraft}
+use Rattle.spur_asm.specs.Text.{lines_of, draft_from}
+use Rattle.spur_asm.specs.Told.{GivesDraft, Told, answer_of, first_told, told_at, told_from}
 use Rattle.spur_asm.specs.declared.draft.Draft.{Draft}
 use Rattle.spur_asm.specs.declared.fault.AsmFault.{AsmFault}
-use Rattle.spur_asm.specs.declared.fault.AsmFault.TheVariants as faults
 use Rattle.spur_asm.specs.declared.fault.Misfit.{Misfit}
 use Rattle.spur_asm.specs.declared.statement.Context.{Context}
 use Rattle.spur_asm.specs.declared.statement.Statement.{Statement}
+use Rattle.spur_asm.proofs.SilentTexts.{IsCounted, line_counted}
 
 -- a text that is not empty begins with what stands before its first line feed
 lines_of-cons : (b : ℕ) (bytes : List ℕ) → lines_of (b ∷ bytes) ≡ before_first is_feed (b ∷ bytes) ∷ lines_of (after_first is_feed (b ∷ bytes))
@@ -82,8 +82,42 @@ pub draft_from-fault : (all : List Placed) (c : Context) (d : Draft) (text : Lis
 draft_from-fault all c d text m some e =
     rw (lines_of-first text some) (draft_from-Err all (statement_of_line all c (before_first is_feed text)) (next_context c (before_first is_feed text)) d (lines_of (after_first is_feed text)) m e)
 
--- the answer of a text with a line that does not fit
-pub GivesDraft-fault : (result : Result Draft AsmFault) (read : Result Draft Misfit) (m : Misfit) → IsErrAnd result (λ fault. fault ≡ faults.NotYet) → read ≡ Err m → GivesDraft result read
-GivesDraft-fault (Ok d) read m h e = absurd h
-GivesDraft-fault (Err faults.NotYet) read m h e = rw e refl
-GivesDraft-fault (Err faults.NoMemory) read m h e = tt
+-- ---- the fault that is told of the lines from one on
+
+told_from-Ok : (all : List Placed) (read : Result (Option Statement) Misfit) (next after : Context) (number : ℕ) (line : List ℕ) (lines : List (List ℕ)) (s : Option Statement) → ◌>>=◌ {B = Option Statement × Context} read (λ t. Ok (t, after)) ≡ Ok (s, next) → first_told number line read (told_from all after (number + 1) lines) ≡ told_from all next (number + 1) lines
+told_from-Ok all (Ok t) next after number line lines s e =
+    let here : Option Statement × Context = (t, after) in
+    let there : Option Statement × Context = (s, next) in
+    let same : here ≡ there = cc in
+    ap (λ (p : Option Statement × Context). told_from all p.1 (number + 1) lines) same
+told_from-Ok all (Err m) next after number line lines s e = cc
+
+told_from-Err : (read : Result (Option Statement) Misfit) (after : Context) (number : ℕ) (line : List ℕ) (behind : Option Told) (m : Misfit) → ◌>>=◌ {B = Option Statement × Context} read (λ t. Ok (t, after)) ≡ Err m → first_told number line read behind ≡ Some (told_at number line m)
+told_from-Err (Ok t) after number line behind m e = cc
+told_from-Err (Err n) after number line behind m e = (let same : n ≡ m = cc in ap (λ (x : Misfit). Some (told_at number line x)) same)
+
+pub told_from-line : (all : List Placed) (c next : Context) (number : ℕ) (text : List ℕ) (s : Option Statement) → (length text == 0) ≡ false → step_at all c (before_first is_feed text) ≡ Ok (s, next) → told_from all c number (lines_of text) ≡ told_from all next (number + 1) (lines_of (after_first is_feed text))
+told_from-line all c next number text s some e =
+    rw (lines_of-first text some) (told_from-Ok all (statement_of_line all c (before_first is_feed text)) next (next_context c (before_first is_feed text)) number (before_first is_feed text) (lines_of (after_first is_feed text)) s e)
+
+pub told_from-fault : (all : List Placed) (c : Context) (number : ℕ) (text : List ℕ) (m : Misfit) → (length text == 0) ≡ false → step_at all c (before_first is_feed text) ≡ Err m → told_from all c number (lines_of text) ≡ Some (told_at number (before_first is_feed text) m)
+told_from-fault all c number text m some e =
+    rw (lines_of-first text some) (told_from-Err (statement_of_line all c (before_first is_feed text)) (next_context c (before_first is_feed text)) number (before_first is_feed text) (told_from all (next_context c (before_first is_feed text)) (number + 1) (lines_of (after_first is_feed text))) m e)
+
+-- a line was read where the step over it was taken
+step-read : (read : Result (Option Statement) Misfit) (after next : Context) (s : Option Statement) → ◌>>=◌ {B = Option Statement × Context} read (λ t. Ok (t, after)) ≡ Ok (s, next) → (read ≡ Ok s) × (after ≡ next)
+step-read (Ok t) after next s e =
+    let here : Option Statement × Context = (t, after) in
+    let there : Option Statement × Context = (s, next) in
+    let same : here ≡ there = cc in
+    (ap (λ (p : Option Statement × Context). Ok p.0) same, ap (λ (p : Option Statement × Context). p.1) same)
+step-read (Err m) after next s e = absurd cc
+
+pub step_counted : (all : List Placed) (c next : Context) (d : Draft) (line : List ℕ) (s : Option Statement) → step_at all c line ≡ Ok (s, next) → IsCounted d c → IsCounted (with_line_statement d s) next
+step_counted all c next d line s e h =
+    let read = step-read (statement_of_line all c line) (next_context c line) next s e in
+    subst (λ (x : Context). IsCounted (with_line_statement d s) x) read.1 (line_counted all c d line s read.0 h)
+
+-- the answer of a text of which this fault is told
+pub GivesDraft-told : (fault : AsmFault) (read : Result Draft Misfit) (o : Option Told) (t : Told) → fault ≡ answer_of t → o ≡ Some t → GivesDraft (Err fault) read o
+GivesDraft-told fault read o t is e = subst (λ (f : AsmFault). GivesDraft (Err f) read o) (sym is) e

@@ -8,7 +8,7 @@ use Rattle.spur_asm.specs.Item.{Item, Label, Page, Word, Board, Seg, Code, item_
 use Rattle.spur_asm.specs.Lexeme.{Lexeme}
 use Rattle.spur_asm.specs.Names.{sort_named}
 use Rattle.spur_asm.specs.Context.{label_of_two, leading_label}
-use Rattle.spur_asm.specs.declared.fault.Kind.{Kind}
+use Rattle.spur_asm.specs.declared.fault.AsmKind.{AsmKind}
 use Rattle.spur_asm.specs.declared.statement.Sort.{Sort}
 use Rattle.spur_asm.proofs.Levels.{IsSound, AreTokens, sort_of}
 
@@ -113,12 +113,12 @@ pub begins : (lexemes : List Lexeme) (name : List ℕ) (tokens : List Token) →
 begins [] name tokens are = absurd are
 begins (one ∷ others) name tokens are = record { one = one; others = others; is = refl; sound = are.0; fields = are.1 }
 
-no_label_by : (one other : Result Token Kind) (name : List ℕ) (token : Token) (tokens : List Token) → one ≡ Ok (Name name) → other ≡ Ok token → no_colon (token ∷ tokens) ≡ true
+no_label_by : (one other : Result Token AsmKind) (name : List ℕ) (token : Token) (tokens : List Token) → one ≡ Ok (Name name) → other ≡ Ok token → no_colon (token ∷ tokens) ≡ true
     → label_of_two one other ≡ None
-no_label_by one other name (Name n) tokens first second fine = ap (λ (p : Result Token Kind × Result Token Kind). label_of_two p.0 p.1) (λ k. (first k, second k))
-no_label_by one other name (Number z) tokens first second fine = ap (λ (p : Result Token Kind × Result Token Kind). label_of_two p.0 p.1) (λ k. (first k, second k))
+no_label_by one other name (Name n) tokens first second fine = ap (λ (p : Result Token AsmKind × Result Token AsmKind). label_of_two p.0 p.1) (λ k. (first k, second k))
+no_label_by one other name (Number z) tokens first second fine = ap (λ (p : Result Token AsmKind × Result Token AsmKind). label_of_two p.0 p.1) (λ k. (first k, second k))
 no_label_by one other name (Mark mark) tokens first second fine =
-    ap (λ (p : Result Token Kind × Result Token Kind). label_of_two p.0 p.1) (λ k. (first k, second k)) ∙ off (mark == 58) fine
+    ap (λ (p : Result Token AsmKind × Result Token AsmKind). label_of_two p.0 p.1) (λ k. (first k, second k)) ∙ off (mark == 58) fine
   where
     off : (b : Bool) → not b ≡ true → (if b && not (is_dotted name) then Some name else None) ≡ None
     off true is = absurd cc
@@ -135,5 +135,5 @@ no_label one (other ∷ others) name (token ∷ tokens) sound fields fine = no_l
 pub some_label : (one other : Lexeme) (others : List Lexeme) (name : List ℕ) → is_dotted name ≡ false → IsSound one (Name name) → IsSound other colon
     → leading_label (one ∷ other ∷ others) ≡ Some name
 some_label one other others name plain first second =
-    ap (λ (p : Result Token Kind × Result Token Kind). label_of_two p.0 p.1) (λ k. (first.token_is k, second.token_is k))
+    ap (λ (p : Result Token AsmKind × Result Token AsmKind). label_of_two p.0 p.1) (λ k. (first.token_is k, second.token_is k))
     ∙ ap (λ (b : Bool). if not b then Some name else None) plain

@@ -14,7 +14,7 @@ use Rattle.spur_asm.specs.Fields.{◌>>=◌}
 use Rattle.spur_asm.specs.Statements.{fields_at}
 use Rattle.spur_asm.specs.Context.{Placed, leading_label, behind_label, behind_two, sort_in, label_fault, misplacement, immediate_of, place_named, distance, next_in, next_context, with_label, with_sort}
 use Rattle.spur_asm.specs.Line.{unless_fault, sorted_at, begun_at, statement_at}
-use Rattle.spur_asm.specs.declared.fault.Kind.{Kind}
+use Rattle.spur_asm.specs.declared.fault.AsmKind.{AsmKind}
 use Rattle.spur_asm.specs.declared.fault.Misfit.{Misfit}
 use Rattle.spur_asm.specs.declared.statement.Context.{Context}
 use Rattle.spur_asm.specs.declared.statement.Sort.{Sort}
@@ -124,9 +124,9 @@ statement_read law all c item sort s lexemes is says range leads fine are =
     let imm : List ℕ → Option ℤ = immediate_of all c in
     let read : fields_at imm sort h.others ≡ Ok s = (law imm (all_fit all c) sort h.others s).1 record { item = item; has_sort = is; says = says; in_range = range; leads = leads; tokens = h.fields } in
     let begun : begun_at imm c h.one.token h.one.left h.others ≡ Ok s =
-    ap (λ (t : Result Token Kind). begun_at imm c t h.one.left h.others) h.sound.token_is
+    ap (λ (t : Result Token AsmKind). begun_at imm c t h.one.left h.others) h.sound.token_is
     ∙ ap (λ (o : Option Sort). sorted_at imm c o h.one.left h.others) h.sorted
-    ∙ ap (λ (k : Option Kind). unless_fault k h.one.left (fields_at imm sort h.others)) fine ∙ read in
+    ∙ ap (λ (k : Option AsmKind). unless_fault k h.one.left (fields_at imm sort h.others)) fine ∙ read in
     ap (statement_at imm c) h.is ∙ ap (λ (r : Result Statement Misfit). r >>= (λ x. Ok (Some x))) begun
 
 -- ---- the tokens of a line, by its shape

@@ -12,7 +12,7 @@ use Rattle.spur_asm.specs.Fields.{◌>>=◌}
 use Rattle.spur_asm.specs.Statements.{fields_at}
 use Rattle.spur_asm.specs.Context.{Placed, leading_label, label_of_two, behind_label, sort_in, label_fault, misplacement, immediate_of, next_in, next_context, with_label, with_sort}
 use Rattle.spur_asm.specs.Line.{statement_of_lexemes, statement_of_line, left_of, unless_fault, head_fault, sorted_at, begun_at, statement_at}
-use Rattle.spur_asm.specs.declared.fault.Kind.{Kind}
+use Rattle.spur_asm.specs.declared.fault.AsmKind.{AsmKind}
 use Rattle.spur_asm.specs.declared.fault.Misfit.{Misfit}
 use Rattle.spur_asm.specs.declared.statement.Context.{Context}
 use Rattle.spur_asm.specs.declared.statement.Sort.{Sort}
@@ -49,7 +49,7 @@ bind_ok (Ok x) f y e = (x, refl, e)
 bind_ok (Err m) f y e = absurd cc
 
 -- what has no fault
-unless_ok : {A : Type 0} (kind : Option Kind) (left : ℕ) (rest : Result A Misfit) (y : A) → unless_fault kind left rest ≡ Ok y → (kind ≡ None) × (rest ≡ Ok y)
+unless_ok : {A : Type 0} (kind : Option AsmKind) (left : ℕ) (rest : Result A Misfit) (y : A) → unless_fault kind left rest ≡ Ok y → (kind ≡ None) × (rest ≡ Ok y)
 unless_ok None left rest y e = (refl, e)
 unless_ok (Some kind) left rest y e = absurd cc
 
@@ -88,7 +88,7 @@ module _ (law : FieldsLaw) (all : List Placed) (c : Context) (lexemes : List Lex
       → statement_at (immediate_of all c) c rest ≡ Ok s → statement_of_lexemes all c lexemes ≡ Ok s
   read_labelled name rest some behind fine read =
       ap (λ (o : Option (List ℕ)). unless_fault (head_fault all c o) (left_of lexemes) (statement_at (immediate_of all c) c (behind_label lexemes))) some
-      ∙ ap (λ (k : Option Kind). unless_fault k (left_of lexemes) (statement_at (immediate_of all c) c (behind_label lexemes))) fine
+      ∙ ap (λ (k : Option AsmKind). unless_fault k (left_of lexemes) (statement_at (immediate_of all c) c (behind_label lexemes))) fine
       ∙ ap (statement_at (immediate_of all c) c) behind ∙ read
 
   read_said : (items : List Item) → Shape items → Said all c lexemes s items → statement_of_lexemes all c lexemes ≡ Ok s
@@ -163,7 +163,7 @@ module _ (law : FieldsLaw) (all : List Placed) (c : Context) where
       }
 
   -- by the first token
-  begun_found : (token : Result Token Kind) (one : Lexeme) (others : List Lexeme) → one.token ≡ token → one.glued ≡ false → (st : Statement)
+  begun_found : (token : Result Token AsmKind) (one : Lexeme) (others : List Lexeme) → one.token ≡ token → one.glued ≡ false → (st : Statement)
       → begun_at (immediate_of all c) c token one.left others ≡ Ok st → Found all c (one ∷ others) st
   begun_found (Err kind) one others is free st e = absurd cc
   begun_found (Ok (Name name)) one others is free st e = sorted_found name (sort_named name) refl one others is free st e
@@ -194,7 +194,7 @@ record LabelFound (lexemes : List Lexeme) (name : List ℕ) : Type 0 where
   mark_is : mark.token ≡ Ok colon
   plain : is_dotted name ≡ false
 
-record TwoAre (one mark : Result Token Kind) (name : List ℕ) : Type 0 where
+record TwoAre (one mark : Result Token AsmKind) (name : List ℕ) : Type 0 where
   name_is : one ≡ Ok (Name name)
   mark_is : mark ≡ Ok colon
   plain : is_dotted name ≡ false
@@ -212,7 +212,7 @@ two_by first name m true false t d e =
     }
 two_by first name m false dotted t d e = absurd cc
 
-two_are : (one mark : Result Token Kind) (name : List ℕ) → label_of_two one mark ≡ Some name → TwoAre one mark name
+two_are : (one mark : Result Token AsmKind) (name : List ℕ) → label_of_two one mark ≡ Some name → TwoAre one mark name
 two_are (Err kind) mark name e = absurd cc
 two_are (Ok (Number z)) mark name e = absurd cc
 two_are (Ok (Mark m)) mark name e = absurd cc

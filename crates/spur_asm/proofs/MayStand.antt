@@ -4,7 +4,7 @@ use Rattle.std.specs.Prelude.{⊤, IfSome}
 use Rattle.std.proofs.lemmas.Bool.{lt-ltb, ltb-true, eqb-true, eq-eqb}
 use Rattle.spur_asm.specs.Item.{Item, Label, Page, Word, Board, Seg, Code}
 use Rattle.spur_asm.specs.Context.{Placed, has_label, immediate_of, limit_fault, misplacement}
-use Rattle.spur_asm.specs.declared.fault.Kind.TheVariants.{BadToken, Twice, Limit}
+use Rattle.spur_asm.specs.declared.fault.AsmKind.TheVariants.{BadToken, Twice, Limit}
 use Rattle.spur_asm.specs.declared.statement.Context.{Context}
 use Rattle.spur_asm.proofs.Levels.{sort_of, Leads, Stands, AllStand, behind_item}
 use Rattle.spur_asm.proofs.ItemRuns.{AllIn, IsNoBoard, Behind}

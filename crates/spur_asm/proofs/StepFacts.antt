@@ -8,8 +8,8 @@ use Rattle.spur_asm.specs.Fields.{◌>>=◌, known}
 use Rattle.spur_asm.specs.Statements.{fields_at}
 use Rattle.spur_asm.specs.Line.{begun_at, head_fault, left_of, sorted_at, statement_at, statement_of_line, unless_fault}
 use Rattle.spur_asm.specs.Step.{begun_with, sorted_or, step_at}
-use Rattle.spur_asm.specs.declared.fault.Kind.{Kind}
-use Rattle.spur_asm.specs.declared.fault.Kind.TheVariants.{UnknownName}
+use Rattle.spur_asm.specs.declared.fault.AsmKind.{AsmKind}
+use Rattle.spur_asm.specs.declared.fault.AsmKind.TheVariants.{UnknownName}
 use Rattle.spur_asm.specs.declared.fault.Misfit.{Misfit}
 use Rattle.spur_asm.specs.declared.statement.Context.{Context}
 use Rattle.spur_asm.specs.declared.statement.Sort.{Sort}
@@ -20,7 +20,7 @@ use Rattle.spur_asm.specs.declared.statement.Statement.{Statement}
 abbrev with_its : Sort → Result Statement Misfit → Result (Statement × Sort) Misfit
 with_its sort read = read >>= (λ s. Ok (s, sort))
 
-unless_fault-Ok : (fault : Option Kind) (left : ℕ) (read : Result Statement Misfit) (sort is : Sort) (s : Statement) → unless_fault fault left (with_its sort read) ≡ Ok (s, is) → (unless_fault fault left read ≡ Ok s) × (sort ≡ is)
+unless_fault-Ok : (fault : Option AsmKind) (left : ℕ) (read : Result Statement Misfit) (sort is : Sort) (s : Statement) → unless_fault fault left (with_its sort read) ≡ Ok (s, is) → (unless_fault fault left read ≡ Ok s) × (sort ≡ is)
 unless_fault-Ok None left (Ok t) sort is s e =
     let here : Statement × Sort = (t, sort) in
     let there : Statement × Sort = (s, is) in
@@ -29,7 +29,7 @@ unless_fault-Ok None left (Ok t) sort is s e =
 unless_fault-Ok None left (Err m) sort is s e = absurd cc
 unless_fault-Ok (Some kind) left read sort is s e = absurd cc
 
-unless_fault-Err : (fault : Option Kind) (left : ℕ) (read : Result Statement Misfit) (sort : Sort) (m : Misfit) → unless_fault fault left (with_its sort read) ≡ Err m → unless_fault fault left read ≡ Err m
+unless_fault-Err : (fault : Option AsmKind) (left : ℕ) (read : Result Statement Misfit) (sort : Sort) (m : Misfit) → unless_fault fault left (with_its sort read) ≡ Err m → unless_fault fault left read ≡ Err m
 unless_fault-Err None left (Ok t) sort m e = absurd cc
 unless_fault-Err None left (Err n) sort m e = cc
 unless_fault-Err (Some kind) left read sort m e = cc
@@ -46,14 +46,14 @@ sorted-Err : (immediate : List ℕ → Option ℤ) (c : Context) (found : Option
 sorted-Err immediate c None left lexemes m e = cc
 sorted-Err immediate c (Some is) left lexemes m e = unless_fault-Err (misplacement c is) left (fields_at immediate is lexemes) is m e
 
-begun-Ok : (immediate : List ℕ → Option ℤ) (c : Context) (token : Result Token Kind) (left : ℕ) (lexemes : List Lexeme) (s : Statement) (sort : Sort)
+begun-Ok : (immediate : List ℕ → Option ℤ) (c : Context) (token : Result Token AsmKind) (left : ℕ) (lexemes : List Lexeme) (s : Statement) (sort : Sort)
     → begun_with immediate c token left lexemes ≡ Ok (s, sort) → (begun_at immediate c token left lexemes ≡ Ok s) × (sort_of_token token ≡ Some sort)
 begun-Ok immediate c (Err kind) left lexemes s sort e = absurd cc
 begun-Ok immediate c (Ok (Name name)) left lexemes s sort e = sorted-Ok immediate c (sort_named name) left lexemes s sort e
 begun-Ok immediate c (Ok (Number z)) left lexemes s sort e = absurd cc
 begun-Ok immediate c (Ok (Mark mark)) left lexemes s sort e = absurd cc
 
-begun-Err : (immediate : List ℕ → Option ℤ) (c : Context) (token : Result Token Kind) (left : ℕ) (lexemes : List Lexeme) (m : Misfit)
+begun-Err : (immediate : List ℕ → Option ℤ) (c : Context) (token : Result Token AsmKind) (left : ℕ) (lexemes : List Lexeme) (m : Misfit)
     → begun_with immediate c token left lexemes ≡ Err m → begun_at immediate c token left lexemes ≡ Err m
 begun-Err immediate c (Err kind) left lexemes m e = cc
 begun-Err immediate c (Ok (Name name)) left lexemes m e = sorted-Err immediate c (sort_named name) left lexemes m e
@@ -63,7 +63,7 @@ begun-Err immediate c (Ok (Mark mark)) left lexemes m e = cc
 -- ---- a line whose label may stand, and that has a statement
 
 -- a line by the fault of its label, what stands behind the label, and the label
-abbrev stepped : (List ℕ → Option ℤ) → Context → Option Kind → ℕ → List Lexeme → Option (List ℕ) → Result (Option Statement × Context) Misfit
+abbrev stepped : (List ℕ → Option ℤ) → Context → Option AsmKind → ℕ → List Lexeme → Option (List ℕ) → Result (Option Statement × Context) Misfit
 stepped immediate c fault left behind label = unless_fault fault left (statement_at immediate c behind) >>= (λ s. Ok (s, with_sort (sort_in behind) (with_label label c)))
 
 -- and by its statement and its sort
@@ -77,7 +77,7 @@ unfolding statement_of_line
 to_step all c line label one rest is_label stands behind =
     let left : ℕ = left_of (lexemes_of line) in
     ap (λ (o : Option (List ℕ)). stepped (immediate_of all c) c (head_fault all c o) left (behind_label (lexemes_of line)) o) (sym is_label)
-    ∙ ap (λ (f : Option Kind). stepped (immediate_of all c) c f left (behind_label (lexemes_of line)) label) stands
+    ∙ ap (λ (f : Option AsmKind). stepped (immediate_of all c) c f left (behind_label (lexemes_of line)) label) stands
     ∙ ap (λ (b : List Lexeme). stepped (immediate_of all c) c None left b label) behind
 
 pub step-Ok : (all : List Placed) (c : Context) (line : List ℕ) (label : Option (List ℕ)) (one : Lexeme) (rest : List Lexeme) (s : Statement) (sort : Sort)

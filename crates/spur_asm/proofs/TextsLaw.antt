@@ -16,7 +16,7 @@ use Rattle.spur_asm.specs.Draft.{empty_draft, fresh_board, all_boards, unit_in}
 use Rattle.spur_asm.specs.Text.{lines_of, draft_at_end, draft_from, draft_in, unit_from, unit_of}
 use Rattle.spur_asm.specs.Laws.{ReadsWhatIsSaid, SaysOnce, SaysAUnit}
 use Rattle.spur_asm.specs.declared.draft.Draft.{Draft}
-use Rattle.spur_asm.specs.declared.fault.Kind.TheVariants.{NoBoard}
+use Rattle.spur_asm.specs.declared.fault.AsmKind.TheVariants.{NoBoard}
 use Rattle.spur_asm.specs.declared.fault.Misfit.{Misfit}
 use Rattle.spur_asm.specs.declared.statement.Context.{Context}
 use Rattle.spur_asm.specs.Fields.{misfit}

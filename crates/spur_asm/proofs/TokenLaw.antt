@@ -8,7 +8,7 @@ use Rattle.spur_asm.specs.Bytes.{is_blank, is_name_byte, is_name_start, is_numbe
 use Rattle.spur_asm.specs.Lexeme.{Lexeme, begins_word, lexeme_at, lexemes_from, lexemes_of, more_of, token_at}
 use Rattle.spur_asm.specs.Spelling.{AreBlank, HasTokens, IsComment, IsText, SpellsTokens}
 use Rattle.spur_asm.specs.Token.{Token, Name, Number, Mark, is_word}
-use Rattle.spur_asm.specs.declared.fault.Kind.{Kind}
+use Rattle.spur_asm.specs.declared.fault.AsmKind.{AsmKind}
 use Rattle.spur_asm.proofs.ByteLemmas.{blank_no_name_byte, blank_no_name_start, blank_no_number_start, mark_no_name_byte}
 use Rattle.spur_asm.proofs.CutLemmas.{Stops, front_taken, front_stops}
 use Rattle.spur_asm.proofs.Levels.{AreFree, AreTokens, FreeLaw, IsSound, TokensLaw, is_mark_token}
@@ -160,11 +160,11 @@ tokens_plain (token ∷ tokens) word bytes h =
     let others = tokens_plain tokens (is_word token) h.rest h.others in
     rw h.is (plain_append h.gap (h.text ++ h.rest) (blank_plain h.gap h.blank) (plain_append h.text h.rest (text_plain token h.text h.token_text) others))
 
-comment_stops : (comment : List ℕ) → IsComment comment → Stops is_plain comment
+pub comment_stops : (comment : List ℕ) → IsComment comment → Stops is_plain comment
 comment_stops comment (inl e) = rw e tt
 comment_stops comment (inr (more, e)) = rw e refl
 
-comment_from : (comment : List ℕ) → Stops is_plain comment → IsComment comment
+pub comment_from : (comment : List ℕ) → Stops is_plain comment → IsComment comment
 comment_from [] stops = inl refl
 comment_from (b ∷ more) stops = inr (more, ap (λ (x : ℕ). x ∷ more) (eqb-true b 59 (not-false (is_semicolon b) stops)))
 
@@ -188,7 +188,7 @@ tokens_law line tokens = (line_read line tokens, line_spelled line tokens)
 
 -- ---- what is not glued
 
-mark_in : (b : ℕ) (bytes : List ℕ) (r : Result Token Kind) → token_at b bytes ≡ r → is_mark_token r ≡ true → begins_word b ≡ false
+mark_in : (b : ℕ) (bytes : List ℕ) (r : Result Token AsmKind) → token_at b bytes ≡ r → is_mark_token r ≡ true → begins_word b ≡ false
 mark_in b bytes (Ok (Mark mark)) e m = (token_is_text b bytes (Mark mark) e).word_is
 mark_in b bytes (Ok (Name name)) e m = absurd cc
 mark_in b bytes (Ok (Number z)) e m = absurd cc

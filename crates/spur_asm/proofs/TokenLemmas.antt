@@ -8,8 +8,8 @@ use Rattle.spur_asm.specs.Lexeme.{begins_word, more_of, named, numbered, token_a
 use Rattle.spur_asm.specs.Number.{numeral_value}
 use Rattle.spur_asm.specs.Spelling.{IsName, IsText}
 use Rattle.spur_asm.specs.Token.{Token, Name, Number, Mark, is_word}
-use Rattle.spur_asm.specs.declared.fault.Kind.{Kind}
-use Rattle.spur_asm.specs.declared.fault.Kind.TheVariants.{BadByte, BadToken}
+use Rattle.spur_asm.specs.declared.fault.AsmKind.{AsmKind}
+use Rattle.spur_asm.specs.declared.fault.AsmKind.TheVariants.{BadByte, BadToken}
 use Rattle.spur_asm.proofs.ByteLemmas.{mark_no_blank, mark_no_name_start, mark_no_number_start, mark_no_semicolon, name_start_no_blank, name_start_no_semicolon, name_byte_no_semicolon, number_start_no_blank, number_start_no_name_start, number_start_no_semicolon, number_byte_no_semicolon, no_number_byte, blank_no_semicolon}
 use Rattle.spur_asm.proofs.CutLemmas.{Stops, front_taken, front_dropped, front_passes}
 use Rattle.spur_asm.proofs.NumberLemmas.{number_read, number_is, number_text}
@@ -93,11 +93,11 @@ pub record TextIs (token : Token) (text : List ℕ) (word : Bool) : Type 0 where
   pub is_text : IsText token text
   pub word_is : word ≡ is_word token
 
-ok_is : (x y : Token) → ◌≡◌ {A = Result Token Kind} (Ok x) (Ok y) → x ≡ y
+ok_is : (x y : Token) → ◌≡◌ {A = Result Token AsmKind} (Ok x) (Ok y) → x ≡ y
 ok_is x y e = cc
 
 name_is : (u : Bool) (b : ℕ) (more : List ℕ) (token : Token) → is_name_start b ≡ true → list_all is_name_byte more ≡ true
-    → ltb 64 (length (b ∷ more)) ≡ u → ◌≡◌ {A = Result Token Kind} (cond u (Err BadToken) (Ok (Name (b ∷ more)))) (Ok token) → TextIs token (b ∷ more) true
+    → ltb 64 (length (b ∷ more)) ≡ u → ◌≡◌ {A = Result Token AsmKind} (cond u (Err BadToken) (Ok (Name (b ∷ more)))) (Ok token) → TextIs token (b ∷ more) true
 name_is true b more token starts on short e = absurd cc
 name_is false b more token starts on short e =
     let name : IsName (b ∷ more) = record { first = b; more = more; is = refl; starts = starts; goes_on = on; short = ltb-false 64 (length (b ∷ more)) short } in
@@ -109,7 +109,7 @@ number_token_is (Some z) text token value e =
     subst (λ (t : Token). TextIs t text true) (ok_is (Number z) token e) (record { is_text = number_is text z value; word_is = refl })
 
 mark_is : (m g : Bool) (b : ℕ) (token : Token) → is_mark b ≡ m
-    → ◌≡◌ {A = Result Token Kind} (cond m (Ok (Mark b)) (cond g (Err BadToken) (Err BadByte))) (Ok token) → TextIs token (b ∷ []) false
+    → ◌≡◌ {A = Result Token AsmKind} (cond m (Ok (Mark b)) (cond g (Err BadToken) (Err BadByte))) (Ok token) → TextIs token (b ∷ []) false
 mark_is true g b token mark e = subst (λ (t : Token). TextIs t (b ∷ []) false) (ok_is (Mark b) token e) (record { is_text = (refl, mark); word_is = refl })
 mark_is false true b token mark e = absurd cc
 mark_is false false b token mark e = absurd cc

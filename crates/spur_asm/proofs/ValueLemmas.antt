@@ -12,8 +12,8 @@ use Rattle.spur_addr.specs.declared.page_entry.Protection.TheVariants.{Nothing, 
 use Rattle.spur_asm.specs.Token.{Token, Name, Number, Mark}
 use Rattle.spur_asm.specs.Item.{register, register_text, protection_text, natural}
 use Rattle.spur_asm.specs.Fields.{◌>>=◌, known, mark_in, named_register, register_in, named_protection, protection_in, number_in, natural_in, offset_in, label_in}
-use Rattle.spur_asm.specs.declared.fault.Kind.{Kind}
-use Rattle.spur_asm.specs.declared.fault.Kind.TheVariants.{BadNumber, NoLabel, UnknownName}
+use Rattle.spur_asm.specs.declared.fault.AsmKind.{AsmKind}
+use Rattle.spur_asm.specs.declared.fault.AsmKind.TheVariants.{BadNumber, NoLabel, UnknownName}
 
 -- ---- steps and tests
 
@@ -47,7 +47,7 @@ some_if : {A : Type 0} (b : Bool) (x y : A) → cond b (Some x) None ≡ Some y 
 some_if true x y e = (refl, cc)
 some_if false x y e = absurd cc
 
-known_is : {A : Type 0} (kind : Kind) (o : Option A) (x : A) → known kind o ≡ Ok x → o ≡ Some x
+known_is : {A : Type 0} (kind : AsmKind) (o : Option A) (x : A) → known kind o ≡ Ok x → o ≡ Some x
 known_is kind None x e = absurd cc
 known_is kind (Some y) x e = cc
 

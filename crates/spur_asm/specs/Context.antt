@@ -7,8 +7,8 @@ use Rattle.std.specs.Str.{bytes_eq}
 use Rattle.spur_asm.specs.Token.{Token, Name, Mark, is_dotted}
 use Rattle.spur_asm.specs.Lexeme.{Lexeme, lexemes_of}
 use Rattle.spur_asm.specs.Names.{sort_named}
-use Rattle.spur_asm.specs.declared.fault.Kind.{Kind}
-use Rattle.spur_asm.specs.declared.fault.Kind.TheVariants.{BadToken, Twice, Limit}
+use Rattle.spur_asm.specs.declared.fault.AsmKind.{AsmKind}
+use Rattle.spur_asm.specs.declared.fault.AsmKind.TheVariants.{BadToken, Twice, Limit}
 use Rattle.spur_asm.specs.declared.label.Label as labels
 use Rattle.spur_asm.specs.declared.statement.Context.{Context}
 use Rattle.spur_asm.specs.declared.statement.Sort.{Sort}
@@ -17,7 +17,7 @@ use Rattle.spur_asm.specs.declared.statement.Sort.TheVariants.{Page, Word, Board
 -- ---- the label of a line
 
 -- a name without a leading `.`, and `:`
-abbrev pub label_of_two : Result Token Kind → Result Token Kind → Option (List ℕ)
+abbrev pub label_of_two : Result Token AsmKind → Result Token AsmKind → Option (List ℕ)
 label_of_two (Ok (Name name)) (Ok (Mark mark)) = if mark == 58 && not (is_dotted name) then Some name else None
 label_of_two one other = None
 
@@ -38,7 +38,7 @@ behind_label lexemes = if is_some (leading_label lexemes) then behind_two lexeme
 
 -- ---- the sort of a line
 
-abbrev pub sort_of_token : Result Token Kind → Option Sort
+abbrev pub sort_of_token : Result Token AsmKind → Option Sort
 sort_of_token (Ok (Name name)) = sort_named name
 sort_of_token other = None
 
@@ -126,15 +126,15 @@ immediate_of all c name = option_map (distance c.codes) (place_named all c.board
 -- ---- what may stand where
 
 -- the fault of a label of this line: it stands before all boards, or one of the board's labels before has its name
-abbrev pub label_fault : List Placed → Context → List ℕ → Option Kind
+abbrev pub label_fault : List Placed → Context → List ℕ → Option AsmKind
 label_fault all c name = if c.boards == 0 then Some BadToken else (if has_label (take c.labels all) c.boards name then Some Twice else None)
 
 -- the fault of one more statement where there may be this many
-abbrev pub limit_fault : ℕ → ℕ → Option Kind
+abbrev pub limit_fault : ℕ → ℕ → Option AsmKind
 limit_fault most before = if nat_lt before most then None else Some Limit
 
 -- the fault of a statement of this sort that stands here, if it may not stand here
-abbrev pub misplacement : Context → Sort → Option Kind
+abbrev pub misplacement : Context → Sort → Option AsmKind
 misplacement c Page = limit_fault 2048 c.pages
 misplacement c Word = limit_fault 65536 c.words
 misplacement c Board = limit_fault 12 c.boards

@@ -7,8 +7,8 @@ use Rattle.spur_addr.specs.declared.page_entry.Protection.{Protection}
 use Rattle.spur_addr.specs.declared.page_entry.Protection.TheVariants.{Nothing, ReadOnly, ReadWrite}
 use Rattle.spur_asm.specs.Token.{Token, Name, Number, Mark}
 use Rattle.spur_asm.specs.Lexeme.{Lexeme}
-use Rattle.spur_asm.specs.declared.fault.Kind.{Kind}
-use Rattle.spur_asm.specs.declared.fault.Kind.TheVariants.{BadToken, BadNumber, UnknownName, NoLabel}
+use Rattle.spur_asm.specs.declared.fault.AsmKind.{AsmKind}
+use Rattle.spur_asm.specs.declared.fault.AsmKind.TheVariants.{BadToken, BadNumber, UnknownName, NoLabel}
 use Rattle.spur_asm.specs.declared.fault.Misfit.{Misfit}
 
 -- one reader behind another; the first fault is the line's
@@ -17,31 +17,31 @@ abbrev pub ◌>>=◌ : {A B E : Type 0} → Result A E → (A → Result B E) �
 (Ok x) >>= f = f x
 (Err e) >>= f = Err e
 
-abbrev pub misfit : Kind → ℕ → Misfit
+abbrev pub misfit : AsmKind → ℕ → Misfit
 misfit kind left = record { kind = kind; left = left }
 
 -- ---- any field
 
 -- what a token stands for, unless it has a fault by itself
-abbrev pub token_value : {A : Type 0} → Result Token Kind → (Token → Result A Kind) → Result A Kind
+abbrev pub token_value : {A : Type 0} → Result Token AsmKind → (Token → Result A AsmKind) → Result A AsmKind
 token_value (Ok token) stands_for = stands_for token
 token_value (Err kind) stands_for = Err kind
 
 -- a token that stands for this value; it must not be glued to the one before
-abbrev pub taken : {A : Type 0} → Lexeme → Result A Kind → List Lexeme → Result (A × List Lexeme) Misfit
+abbrev pub taken : {A : Type 0} → Lexeme → Result A AsmKind → List Lexeme → Result (A × List Lexeme) Misfit
 taken one (Err kind) lexemes = Err (misfit kind one.left)
 taken one (Ok value) lexemes = if one.glued then Err (misfit BadToken one.left) else Ok (value, lexemes)
 
 -- the field that the first token is, by what a token stands for; the line may not end here
-abbrev pub field_at : {A : Type 0} → (Token → Result A Kind) → List Lexeme → Result (A × List Lexeme) Misfit
+abbrev pub field_at : {A : Type 0} → (Token → Result A AsmKind) → List Lexeme → Result (A × List Lexeme) Misfit
 field_at stands_for [] = Err (misfit BadToken 0)
 field_at stands_for (one ∷ lexemes) = taken one (token_value one.token stands_for) lexemes
 
 -- a token where another kind, or none, is wanted
-abbrev pub unwanted : {A : Type 0} → Token → Result A Kind
+abbrev pub unwanted : {A : Type 0} → Token → Result A AsmKind
 unwanted token = Err BadToken
 
-abbrev pub leftover : {A : Type 0} → Lexeme → Result A Kind → Result A Misfit
+abbrev pub leftover : {A : Type 0} → Lexeme → Result A AsmKind → Result A Misfit
 leftover one (Err kind) = Err (misfit kind one.left)
 leftover one (Ok value) = Ok value
 
@@ -53,12 +53,12 @@ end_at value (one ∷ lexemes) = leftover one (token_value one.token unwanted)
 -- ---- what a token stands for
 
 -- what a name stands for, if it stands for anything
-abbrev pub known : {A : Type 0} → Kind → Option A → Result A Kind
+abbrev pub known : {A : Type 0} → AsmKind → Option A → Result A AsmKind
 known kind None = Err kind
 known kind (Some value) = Ok value
 
 -- this mark
-abbrev pub mark_in : ℕ → Token → Result ℕ Kind
+abbrev pub mark_in : ℕ → Token → Result ℕ AsmKind
 mark_in wanted (Mark mark) = if mark == wanted then Ok wanted else Err BadToken
 mark_in wanted other = Err BadToken
 
@@ -68,7 +68,7 @@ named_register (r ∷ d ∷ []) = if r == 114 && is_ascii_digit d then Some (d -
 named_register (r ∷ one ∷ d ∷ []) = if r == 114 && one == 49 && is_ascii_digit d && nat_lt d 54 then Some (d - 38) else None
 named_register other = None
 
-abbrev pub register_in : Token → Result ℕ Kind
+abbrev pub register_in : Token → Result ℕ AsmKind
 register_in (Name name) = known UnknownName (named_register name)
 register_in other = Err BadToken
 
@@ -76,29 +76,29 @@ register_in other = Err BadToken
 abbrev pub named_protection : List ℕ → Option Protection
 named_protection word = if bytes_eq word (codes "none") then Some Nothing else (if bytes_eq word (codes "ro") then Some ReadOnly else (if bytes_eq word (codes "rw") then Some ReadWrite else None))
 
-abbrev pub protection_in : Token → Result Protection Kind
+abbrev pub protection_in : Token → Result Protection AsmKind
 protection_in (Name name) = known UnknownName (named_protection name)
 protection_in other = Err BadToken
 
 -- a number from low to high
-abbrev pub number_in : ℤ → ℤ → Token → Result ℤ Kind
+abbrev pub number_in : ℤ → ℤ → Token → Result ℤ AsmKind
 number_in low high (Number z) = if int_lt z low || int_lt high z then Err BadNumber else Ok z
 number_in low high other = Err BadToken
 
 -- a number from 0 to high
-abbrev pub natural_in : ℕ → Token → Result ℕ Kind
+abbrev pub natural_in : ℕ → Token → Result ℕ AsmKind
 natural_in high token = do
   z ← number_in (pos 0) (pos high) token
   Ok (unsigned_abs z)
 
 -- a multiple of 4 from 0 to high
-abbrev pub offset_in : ℕ → Token → Result ℕ Kind
+abbrev pub offset_in : ℕ → Token → Result ℕ AsmKind
 offset_in high token = do
   n ← natural_in high token
   if n % 4 == 0 then Ok n else Err BadNumber
 
 -- a label's name, by the immediate that leads to it
-abbrev pub label_in : (List ℕ → Option ℤ) → Token → Result ℤ Kind
+abbrev pub label_in : (List ℕ → Option ℤ) → Token → Result ℤ AsmKind
 label_in immediate_of (Name name) = known NoLabel (immediate_of name)
 label_in immediate_of other = Err BadToken
 

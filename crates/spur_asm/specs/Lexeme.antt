@@ -5,8 +5,8 @@ use Rattle.std.specs.List.{before_first, prefix_len, take_while}
 use Rattle.spur_asm.specs.Bytes.{is_blank, is_mark, is_name_byte, is_name_start, is_number_byte, is_number_start, is_semicolon}
 use Rattle.spur_asm.specs.Token.{Token, Name, Number, Mark}
 use Rattle.spur_asm.specs.Number.{numeral_value}
-use Rattle.spur_asm.specs.declared.fault.Kind.{Kind}
-use Rattle.spur_asm.specs.declared.fault.Kind.TheVariants.{BadByte, BadToken, BadNumber}
+use Rattle.spur_asm.specs.declared.fault.AsmKind.{AsmKind}
+use Rattle.spur_asm.specs.declared.fault.AsmKind.TheVariants.{BadByte, BadToken, BadNumber}
 use Rattle.spur_asm.specs.declared.token.Token as seen
 use Rattle.spur_asm.specs.declared.token.Token.TheVariants as seen_tokens
 use Rattle.spur_asm.specs.declared.token.Lexeme as seen_lexemes
@@ -14,21 +14,21 @@ use Rattle.spur_asm.specs.declared.token.Lexeme as seen_lexemes
 -- a token, or what is wrong with it; whether it is a name or a number and follows one with no blank between; how many bytes are left from
 -- its first byte on
 pub record Lexeme : Type 0 where
-  pub token : Result Token Kind
+  pub token : Result Token AsmKind
   pub glued : Bool
   pub left : ℕ
 
 -- a name of at most 64 bytes
-abbrev pub named : List ℕ → Result Token Kind
+abbrev pub named : List ℕ → Result Token AsmKind
 named text = if nat_lt 64 (length text) then Err BadToken else Ok (Name text)
 
 -- a number that is well formed
-abbrev pub numbered : Option ℤ → Result Token Kind
+abbrev pub numbered : Option ℤ → Result Token AsmKind
 numbered None = Err BadNumber
 numbered (Some z) = Ok (Number z)
 
 -- the token that begins with this byte, which is no blank, and goes on in these
-abbrev pub token_at : ℕ → List ℕ → Result Token Kind
+abbrev pub token_at : ℕ → List ℕ → Result Token AsmKind
 token_at b bytes =
     if is_name_start b then named (b ∷ take_while is_name_byte bytes) else
     (if is_number_start b then numbered (numeral_value (b ∷ take_while is_number_byte bytes)) else
@@ -68,7 +68,7 @@ token_of (seen_tokens.Name text) = Name text.now
 token_of (seen_tokens.Number z) = Number z
 token_of (seen_tokens.Mark mark) = Mark mark
 
-abbrev pub token_in : Result seen.Token Kind → Result Token Kind
+abbrev pub token_in : Result seen.Token AsmKind → Result Token AsmKind
 token_in (Ok token) = Ok (token_of token)
 token_in (Err kind) = Err kind
 

@@ -9,6 +9,7 @@ pub mod Lexeme
 pub mod Front
 pub mod Names
 pub mod Context
+pub mod Table
 pub mod Fields
 pub mod Statements
 pub mod Line
@@ -16,3 +17,11 @@ pub mod Step
 pub mod Draft
 pub mod Text
 pub mod Laws
+pub mod Pieces
+pub mod Shapes
+pub mod Counts
+pub mod Faults
+pub mod Found
+pub mod Told
+pub mod Places
+pub mod FaultLaws

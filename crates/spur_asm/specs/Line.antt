@@ -6,8 +6,8 @@ use Rattle.spur_asm.specs.Names.{sort_named}
 use Rattle.spur_asm.specs.Context.{Placed, leading_label, behind_label, label_fault, misplacement, immediate_of}
 use Rattle.spur_asm.specs.Fields.{◌>>=◌, misfit}
 use Rattle.spur_asm.specs.Statements.{fields_at}
-use Rattle.spur_asm.specs.declared.fault.Kind.{Kind}
-use Rattle.spur_asm.specs.declared.fault.Kind.TheVariants.{BadToken, UnknownName}
+use Rattle.spur_asm.specs.declared.fault.AsmKind.{AsmKind}
+use Rattle.spur_asm.specs.declared.fault.AsmKind.TheVariants.{BadToken, UnknownName}
 use Rattle.spur_asm.specs.declared.fault.Misfit.{Misfit}
 use Rattle.spur_asm.specs.declared.statement.Context.{Context}
 use Rattle.spur_asm.specs.declared.statement.Sort.{Sort}
@@ -19,13 +19,13 @@ left_of [] = 0
 left_of (one ∷ lexemes) = one.left
 
 -- the fault with this many bytes left, if there is one, and else what follows
-abbrev pub unless_fault : {A : Type 0} → Option Kind → ℕ → Result A Misfit → Result A Misfit
+abbrev pub unless_fault : {A : Type 0} → Option AsmKind → ℕ → Result A Misfit → Result A Misfit
 unless_fault None left rest = rest
 unless_fault (Some kind) left rest = Err (misfit kind left)
 
 -- ---- the label at the head of a line
 
-abbrev pub head_fault : List Placed → Context → Option (List ℕ) → Option Kind
+abbrev pub head_fault : List Placed → Context → Option (List ℕ) → Option AsmKind
 head_fault all c None = None
 head_fault all c (Some name) = label_fault all c name
 
@@ -37,7 +37,7 @@ sorted_at immediate c None left lexemes = Err (misfit UnknownName left)
 sorted_at immediate c (Some sort) left lexemes = unless_fault (misplacement c sort) left (fields_at immediate sort lexemes)
 
 -- the statement that begins with this token, which has to be a name
-abbrev pub begun_at : (List ℕ → Option ℤ) → Context → Result Token Kind → ℕ → List Lexeme → Result Statement Misfit
+abbrev pub begun_at : (List ℕ → Option ℤ) → Context → Result Token AsmKind → ℕ → List Lexeme → Result Statement Misfit
 begun_at immediate c (Err kind) left lexemes = Err (misfit kind left)
 begun_at immediate c (Ok (Name name)) left lexemes = sorted_at immediate c (sort_named name) left lexemes
 begun_at immediate c (Ok other) left lexemes = Err (misfit BadToken left)

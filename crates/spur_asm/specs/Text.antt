@@ -1,5 +1,5 @@
 -- How a whole text is read.
-use Rattle.std.specs.Prelude.{◌≡◌, ℕ, if◌then◌else◌, List, [], ◌∷◌, Option, Some, None, Result, Ok, Err, IsErr}
+use Rattle.std.specs.Prelude.{ℕ, if◌then◌else◌, List, [], ◌∷◌, Option, Some, None, Result, Ok, Err}
 use Rattle.std.specs.List.{onto_first}
 use Rattle.std.specs.Option.{is_some}
 use Rattle.spur_object.specs.declared.unit.Unit as units
@@ -9,9 +9,7 @@ use Rattle.spur_asm.specs.Fields.{◌>>=◌, misfit}
 use Rattle.spur_asm.specs.Line.{statement_of_line}
 use Rattle.spur_asm.specs.Draft.{empty_draft, with_line_statement, unit_in}
 use Rattle.spur_asm.specs.declared.draft.Draft.{Draft}
-use Rattle.spur_asm.specs.declared.fault.AsmFault.{AsmFault}
-use Rattle.spur_asm.specs.declared.fault.AsmFault.TheVariants as faults
-use Rattle.spur_asm.specs.declared.fault.Kind.TheVariants.{NoBoard}
+use Rattle.spur_asm.specs.declared.fault.AsmKind.TheVariants.{NoBoard}
 use Rattle.spur_asm.specs.declared.fault.Misfit.{Misfit}
 use Rattle.spur_asm.specs.declared.statement.Context.{Context}
 
@@ -35,12 +33,6 @@ draft_from all c d (line ∷ lines) = do
 abbrev pub draft_in : List (List ℕ) → Result Draft Misfit
 draft_in lines = draft_from (labels_from first_context lines) first_context empty_draft lines
 
--- the answer is the draft that is read, or that there is none; want of memory is free
-abbrev pub GivesDraft : Result Draft AsmFault → Result Draft Misfit → Type 0
-GivesDraft (Ok d) read = read ≡ Ok d
-GivesDraft (Err faults.NotYet) read = IsErr read
-GivesDraft (Err faults.NoMemory) read = Unit {0}
-
 -- the unit of what was read
 abbrev pub unit_from : Result Draft Misfit → Option units.Unit
 unit_from (Err m) = None
@@ -49,9 +41,3 @@ unit_from (Ok d) = Some (unit_in d)
 -- the unit of a text, if the text has no fault
 unfoldable pub unit_of : List ℕ → Option units.Unit
 unit_of text = unit_from (draft_in (lines_of text))
-
--- the answer is the unit that is read, or that there is none; want of memory is free
-abbrev pub GivesUnit : Result units.Unit AsmFault → Option units.Unit → Type 0
-GivesUnit (Ok unit) read = read ≡ Some unit
-GivesUnit (Err faults.NotYet) read = read ≡ None
-GivesUnit (Err faults.NoMemory) read = Unit {0}

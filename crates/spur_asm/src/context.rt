@@ -1,20 +1,21 @@
 //! What stands before a line, and what may stand in it.
-ghost use Rattle.std.specs.Prelude.{◌≡◌, ◌+◌, ◌-◌, ◌^◌, ℕ, map, Some, None};
+ghost use Rattle.std.specs.Prelude.{◌≡◌, ◌+◌, ◌-◌, ◌^◌, ℕ, Some, None};
 ghost use Rattle.std.specs.Option.{option_copied};
-ghost use Rattle.spur_asm.specs.Context.{first_context, immediate_of, label_fault, limit_fault, misplacement, placed_of, with_label, with_sort, IsWithin};
+ghost use Rattle.spur_asm.specs.Context.{first_context, immediate_of, label_fault, limit_fault, misplacement, with_label, with_sort, IsWithin};
 
-use crate::fault::Kind;
-use crate::label::{self, Label};
+use crate::fault::AsmKind;
+use crate::label;
 use crate::statement::{Context, Sort};
+use crate::table::Labels;
 
 /// The fault of one more statement of a sort: `Limit` where `most` of them or more stand before.
-fn limit_fault(most: usize, before: usize) -> Option<Kind>
+fn limit_fault(most: usize, before: usize) -> Option<AsmKind>
     ensures { result ≡ limit_fault most before }
 {
     if before < most {
         None
     } else {
-        Some(Kind::Limit)
+        Some(AsmKind::Limit)
     }
 }
 
@@ -63,30 +64,29 @@ impl Context {
     /// 2048 pages, 65536 words and 12 boards, and for each board one `.seg` and 4096 instructions, which stand behind
     /// its `.board`: `Limit` where there are as many already, `Twice` for a further `.seg`, and `BadToken` before the
     /// first board.
-    pub fn misplacement(self, sort: Sort) -> Option<Kind>
+    pub fn misplacement(self, sort: Sort) -> Option<AsmKind>
         ensures { result ≡ misplacement self sort }
     {
         match sort {
             Sort::Page => limit_fault(2048, self.pages),
             Sort::Word => limit_fault(65536, self.words),
             Sort::Board => limit_fault(12, self.boards),
-            Sort::Seg | Sort::Code(_) if self.boards == 0 => Some(Kind::BadToken),
+            Sort::Seg | Sort::Code(_) if self.boards == 0 => Some(AsmKind::BadToken),
             Sort::Seg if self.segs == 0 => None,
-            Sort::Seg => Some(Kind::Twice),
+            Sort::Seg => Some(AsmKind::Twice),
             Sort::Code(_) => limit_fault(4096, self.codes),
         }
     }
 
     /// The fault of a label of this line, or `None` where it may stand here: `BadToken` before the first board, and
     /// `Twice` where one of the board's labels before has its name. `labels` are those of all lines, in their order.
-    pub fn label_fault(self, labels: &[Label<'_>], name: &[u8]) -> Option<Kind>
-        ensures { result ≡ label_fault (map placed_of labels.now) self name.now }
+    pub fn label_fault<'a>(self, labels: &Labels<'a>, name: &'a [u8]) -> Option<AsmKind>
+        ensures { result ≡ label_fault labels.now self name.now }
     {
-        let before = label::first(labels, self.labels);
         if self.boards == 0 {
-            Some(Kind::BadToken)
-        } else if label::has_label(before, self.boards, name) {
-            Some(Kind::Twice)
+            Some(AsmKind::BadToken)
+        } else if labels.has_before(self.labels, self.boards, name) {
+            Some(AsmKind::Twice)
         } else {
             None
         }
@@ -94,10 +94,10 @@ impl Context {
 
     /// The immediate of an instruction of this line that goes to the label of its board with this name. `None` where
     /// the board has none. `labels` are those of all lines.
-    pub fn immediate(self, labels: &[Label<'_>], name: &[u8]) -> Option<i16>
-        ensures { result ≡ immediate_of (map placed_of labels.now) self name.now }
+    pub fn immediate<'a>(self, labels: &Labels<'a>, name: &'a [u8]) -> Option<i16>
+        ensures { result ≡ immediate_of labels.now self name.now }
     {
-        let there = label::place_named(labels, self.boards, name)?;
+        let there = labels.place_named(self.boards, name)?;
         Some(label::distance(self.codes, there))
     }
 }

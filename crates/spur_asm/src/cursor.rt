@@ -5,7 +5,7 @@ ghost use Rattle.std.specs.List.{before_first, position};
 ghost use Rattle.spur_asm.specs.Bytes.{is_semicolon};
 ghost use Rattle.spur_asm.specs.Lexeme.{lexemes_of, TakesLexeme};
 
-use crate::fault::Kind;
+use crate::fault::AsmKind;
 use crate::token::Lexeme;
 use crate::{bytes, front};
 use std::marker::Model;
@@ -18,7 +18,7 @@ fn first_semicolon(line: &[u8]) -> Option<usize>
 }
 
 /// The bytes before the first `;`, which begins a comment.
-fn body(line: &[u8]) -> &[u8]
+pub fn body(line: &[u8]) -> &[u8]
     ensures { result.now ≡ before_first is_semicolon line.now }
 {
     match first_semicolon(line) {

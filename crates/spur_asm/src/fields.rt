@@ -1,23 +1,23 @@
 //! The fields of a statement. Each reader takes one token, or says in which way the line does not fit: by the token's
 //! own fault, as `BadToken` where the line ends, and last as `BadToken` where a blank is wanting before the token.
-ghost use Rattle.std.specs.Prelude.{◌≡◌, ◌≤ℤ◌, ◌≤◌, IfOk, List, Ok, Result, ℤ, pos, map};
-ghost use Rattle.spur_asm.specs.Context.{immediate_of, placed_of};
+ghost use Rattle.std.specs.Prelude.{◌≡◌, ◌≤ℤ◌, ◌≤◌, IfOk, List, Ok, Result, ℤ, pos};
+ghost use Rattle.spur_asm.specs.Context.{immediate_of};
 ghost use Rattle.spur_asm.specs.Lexeme as specs;
 ghost use Rattle.spur_asm.specs.Lexeme.{lexeme_of, token_in};
 ghost use Rattle.spur_asm.specs.Fields.{end_at, immediate_at, label_at, label_in, mark_at, misfit, natural_at, number_at, offset_at, protection_at, register_at, taken, token_value, Passes, Reads};
 
 use crate::cursor::Cursor;
-use crate::fault::{Kind, Misfit};
-use crate::label::{self, Label};
+use crate::fault::{AsmKind, Misfit};
 use crate::operand;
 use crate::statement::Context;
+use crate::table::Labels;
 use crate::token::{Lexeme, Token};
 use spur_addr::Protection;
 use spur_isa::Reg;
 
 impl Lexeme<'_> {
     /// The fault of this token.
-    pub fn misfit(&self, kind: Kind) -> Misfit
+    pub fn misfit(&self, kind: AsmKind) -> Misfit
         ensures { result ≡ misfit kind self.now.left }
     {
         Misfit {
@@ -28,13 +28,13 @@ impl Lexeme<'_> {
 
     /// The value that this token stands for. A fault of its own comes first, and then that it is glued to the token
     /// before.
-    fn taken<T: Drop>(&self, value: Result<T, Kind>) -> Result<T, Misfit>
+    fn taken<T: Drop>(&self, value: Result<T, AsmKind>) -> Result<T, Misfit>
         ensures reads { (rest : List specs.Lexeme) → Reads result rest (taken (lexeme_of self.now) value rest) }
         ensures same { IfOk result (λ v. value ≡ Ok v) }
     {
         match value {
             Err(kind) => Err(self.misfit(kind)),
-            Ok(_) if self.glued => Err(self.misfit(Kind::BadToken)),
+            Ok(_) if self.glued => Err(self.misfit(AsmKind::BadToken)),
             Ok(value) => Ok(value),
         }
     }
@@ -42,7 +42,7 @@ impl Lexeme<'_> {
 
 /// The fault of a line that ends too early.
 const END: Misfit = Misfit {
-    kind: Kind::BadToken,
+    kind: AsmKind::BadToken,
     left: 0,
 };
 
@@ -122,8 +122,8 @@ impl<'a> Cursor<'a> {
 
     /// Takes the name of a label of the board, as the immediate that leads from the instruction of this line to it.
     /// `NoLabel` where the board has none of this name.
-    pub fn label(&mut self, labels: &[Label<'_>], context: Context) -> Result<i16, Misfit>
-        ensures { Reads result self.new (label_at (immediate_of (map placed_of labels.now) context) self.old) }
+    pub fn label(&mut self, labels: &Labels<'a>, context: Context) -> Result<i16, Misfit>
+        ensures { Reads result self.new (label_at (immediate_of labels.now context) self.old) }
     {
         let Some(lexeme) = self.next() else {
             return Err(END);
@@ -139,7 +139,7 @@ impl<'a> Cursor<'a> {
             None => Ok(value),
             Some(lexeme) => Err(lexeme.misfit(match lexeme.token {
                 Err(kind) => kind,
-                Ok(_) => Kind::BadToken,
+                Ok(_) => AsmKind::BadToken,
             })),
         }
     }
@@ -147,15 +147,15 @@ impl<'a> Cursor<'a> {
 
 /// The immediate that leads from the instruction of this line to the label that the token names. `BadToken` where it
 /// is no name, `NoLabel` where the board has no label of this name.
-fn led_to(
-    token: Result<Token<'_>, Kind>,
-    labels: &[Label<'_>],
+fn led_to<'a>(
+    token: Result<Token<'a>, AsmKind>,
+    labels: &Labels<'a>,
     context: Context,
-) -> Result<i16, Kind>
-    ensures { result ≡ token_value (token_in token.entry) (label_in (immediate_of (map placed_of labels.now) context)) }
+) -> Result<i16, AsmKind>
+    ensures { result ≡ token_value (token_in token.entry) (label_in (immediate_of labels.now context)) }
 {
     match token? {
-        Token::Name(name) => context.immediate(labels, name).ok_or(Kind::NoLabel),
-        _ => Err(Kind::BadToken),
+        Token::Name(name) => context.immediate(labels, name).ok_or(AsmKind::NoLabel),
+        _ => Err(AsmKind::BadToken),
     }
 }

@@ -9,7 +9,7 @@ ghost use Rattle.spur_asm.specs.Line.{left_of};
 ghost use Rattle.spur_asm.specs.Step.{sort_of_name};
 
 use crate::cursor::Cursor;
-use crate::fault::{Kind, Misfit};
+use crate::fault::{AsmKind, Misfit};
 use crate::statement::Sort;
 use crate::token::{Lexeme, Token};
 
@@ -25,8 +25,8 @@ fn is_dotted(name: &[u8]) -> bool
 
 /// The name of the label that two tokens are: a name without a leading `.`, and `:`.
 fn label_of_two<'a>(
-    one: Result<Token<'a>, Kind>,
-    other: Result<Token<'a>, Kind>,
+    one: Result<Token<'a>, AsmKind>,
+    other: Result<Token<'a>, AsmKind>,
 ) -> Option<&'a [u8]>
     ensures { option_copied result ≡ label_of_two (token_in one.entry) (token_in other.entry) }
 {
@@ -40,12 +40,12 @@ fn label_of_two<'a>(
 
 /// The sort of the statements that begin with this token. `BadToken` where it is no name, `UnknownName` where no
 /// statement has this name.
-pub fn sort(token: Result<Token<'_>, Kind>) -> Result<Sort, Kind>
+pub fn sort(token: Result<Token<'_>, AsmKind>) -> Result<Sort, AsmKind>
     ensures { result ≡ token_value (token_in token.entry) sort_of_name }
 {
     match token? {
-        Token::Name(name) => Sort::named(name).ok_or(Kind::UnknownName),
-        _ => Err(Kind::BadToken),
+        Token::Name(name) => Sort::named(name).ok_or(AsmKind::UnknownName),
+        _ => Err(AsmKind::BadToken),
     }
 }
 
@@ -74,7 +74,7 @@ impl<'a> Cursor<'a> {
     }
 
     /// The fault of the first token that is left, or of the end of the line.
-    pub fn misfit_here(&mut self, kind: Kind) -> Misfit
+    pub fn misfit_here(&mut self, kind: AsmKind) -> Misfit
         ensures { result ≡ misfit kind (left_of self.old) }
     {
         match self.next() {

@@ -19,9 +19,10 @@ mod number;
 mod operand;
 mod statement;
 mod statements;
+mod table;
 #[cfg(test)]
 mod tests;
 mod token;
 
 pub use assembler::assemble;
-pub use fault::AsmFault;
+pub use fault::{AsmFault, AsmKind};

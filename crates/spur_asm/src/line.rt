@@ -1,21 +1,21 @@
 //! A line in the light of what stands before it and of all labels.
-ghost use Rattle.std.specs.Prelude.{◌≡◌, ◌^◌, ◌+◌, ◌-◌, ℕ, map, IfOk, Result};
+ghost use Rattle.std.specs.Prelude.{◌≡◌, ◌^◌, ◌+◌, ◌-◌, ℕ, IfOk, Result};
 ghost use Rattle.std.specs.Option.{option_copied};
-ghost use Rattle.spur_asm.specs.Context.{immediate_of, placed_of, IsWithin};
+ghost use Rattle.spur_asm.specs.Context.{immediate_of, IsWithin};
 ghost use Rattle.spur_asm.specs.Lexeme.{token_in};
 ghost use Rattle.spur_asm.specs.Line.{head_fault};
 ghost use Rattle.spur_asm.specs.Step.{begun_with, step_at};
 
 use crate::cursor::Cursor;
-use crate::fault::{Kind, Misfit};
-use crate::label::Label;
+use crate::fault::{AsmKind, Misfit};
 use crate::statement::{Context, Sort, Statement};
+use crate::table::Labels;
 use crate::token::Lexeme;
 use crate::{head, statements};
 
 /// The fault of the label of a line, if it has one that may not stand here.
-fn head_fault(labels: &[Label<'_>], context: Context, label: Option<&[u8]>) -> Option<Kind>
-    ensures { result ≡ head_fault (map placed_of labels.now) context (option_copied label.entry) }
+fn head_fault<'a>(labels: &Labels<'a>, context: Context, label: Option<&'a [u8]>) -> Option<AsmKind>
+    ensures { result ≡ head_fault labels.now context (option_copied label.entry) }
 {
     match label {
         Some(name) => context.label_fault(labels, name),
@@ -25,13 +25,13 @@ fn head_fault(labels: &[Label<'_>], context: Context, label: Option<&[u8]>) -> O
 
 /// The statement that begins with the token `first`, behind which the cursor stands, and its sort. A statement that is
 /// not known or may not stand here has its fault at that token.
-fn begun(
-    labels: &[Label<'_>],
+fn begun<'a>(
+    labels: &Labels<'a>,
     context: Context,
-    first: &Lexeme<'_>,
-    line: &mut Cursor<'_>,
+    first: &Lexeme<'a>,
+    line: &mut Cursor<'a>,
 ) -> Result<(Statement, Sort), Misfit>
-    ensures { result ≡ begun_with (immediate_of (map placed_of labels.now) context) context
+    ensures { result ≡ begun_with (immediate_of labels.now context) context
         (token_in first.now.token) first.now.left line.old }
 {
     match head::sort(first.token) {
@@ -50,13 +50,13 @@ fn begun(
 /// are those of all lines, in their order. A label that may not stand here has its fault at the line's first token,
 /// before all that follows.
 #[tactic(auto, unfolding(crate::specs::Line::statement_of_line))]
-pub fn step(
-    labels: &[Label<'_>],
+pub fn step<'a>(
+    labels: &Labels<'a>,
     context: Context,
-    line: &[u8],
+    line: &'a [u8],
 ) -> Result<(Option<Statement>, Context), Misfit>
     requires { IsWithin (2 ^ 64 - 2) context }
-    ensures step { result ≡ step_at (map placed_of labels.now) context line.now }
+    ensures step { result ≡ step_at labels.now context line.now }
     ensures within { IfOk result (λ next. (k : ℕ) → IsWithin k context → IsWithin (k + 1) next.1) }
 {
     let mut cursor = Cursor::new(line);

@@ -3,18 +3,18 @@ ghost use Rattle.std.specs.Prelude.{◌≡◌, ◌≤ℤ◌, ◌≤◌, IfOk, Ok
 ghost use Rattle.spur_asm.specs.Lexeme.{token_in};
 ghost use Rattle.spur_asm.specs.Fields.{mark_in, named_protection, named_register, natural_in, number_in, offset_in, protection_in, register_in, token_value};
 
-use crate::fault::Kind;
+use crate::fault::AsmKind;
 use crate::token::Token;
 use spur_addr::Protection;
 use spur_isa::Reg;
 
 /// The mark `wanted`. `BadToken` where the token is another one.
-pub fn mark(token: Result<Token<'_>, Kind>, wanted: u8) -> Result<u8, Kind>
+pub fn mark(token: Result<Token<'_>, AsmKind>, wanted: u8) -> Result<u8, AsmKind>
     ensures { result ≡ token_value (token_in token.entry) (mark_in wanted) }
 {
     match token? {
         Token::Mark(mark) if mark == wanted => Ok(wanted),
-        _ => Err(Kind::BadToken),
+        _ => Err(AsmKind::BadToken),
     }
 }
 
@@ -30,12 +30,12 @@ fn register_named(name: &[u8]) -> Option<Reg>
 }
 
 /// A register, `r0` to `r15`. `BadToken` where the token is no name, `UnknownName` where it is another one.
-pub fn register(token: Result<Token<'_>, Kind>) -> Result<Reg, Kind>
+pub fn register(token: Result<Token<'_>, AsmKind>) -> Result<Reg, AsmKind>
     ensures { result ≡ token_value (token_in token.entry) register_in }
 {
     match token? {
-        Token::Name(name) => register_named(name).ok_or(Kind::UnknownName),
-        _ => Err(Kind::BadToken),
+        Token::Name(name) => register_named(name).ok_or(AsmKind::UnknownName),
+        _ => Err(AsmKind::BadToken),
     }
 }
 
@@ -55,29 +55,29 @@ fn protection_named(name: &[u8]) -> Option<Protection>
 }
 
 /// A protection, `none`, `ro` or `rw`. `BadToken` where the token is no name, `UnknownName` where it is another one.
-pub fn protection(token: Result<Token<'_>, Kind>) -> Result<Protection, Kind>
+pub fn protection(token: Result<Token<'_>, AsmKind>) -> Result<Protection, AsmKind>
     ensures { result ≡ token_value (token_in token.entry) protection_in }
 {
     match token? {
-        Token::Name(name) => protection_named(name).ok_or(Kind::UnknownName),
-        _ => Err(Kind::BadToken),
+        Token::Name(name) => protection_named(name).ok_or(AsmKind::UnknownName),
+        _ => Err(AsmKind::BadToken),
     }
 }
 
 /// A number from `low` to `high`. `BadToken` where the token is no number, `BadNumber` where it is another one.
-pub fn number(token: Result<Token<'_>, Kind>, low: i64, high: i64) -> Result<i64, Kind>
+pub fn number(token: Result<Token<'_>, AsmKind>, low: i64, high: i64) -> Result<i64, AsmKind>
     ensures value { result ≡ token_value (token_in token.entry) (number_in low high) }
     ensures range { IfOk result (λ z. (low ≤ℤ z) × (z ≤ℤ high)) }
 {
     match token? {
-        Token::Number(z) if z < low || high < z => Err(Kind::BadNumber),
+        Token::Number(z) if z < low || high < z => Err(AsmKind::BadNumber),
         Token::Number(z) => Ok(z),
-        _ => Err(Kind::BadToken),
+        _ => Err(AsmKind::BadToken),
     }
 }
 
 /// A number from 0 to `high`. `BadToken` where the token is no number, `BadNumber` where it is another one.
-pub fn natural(token: Result<Token<'_>, Kind>, high: u32) -> Result<u32, Kind>
+pub fn natural(token: Result<Token<'_>, AsmKind>, high: u32) -> Result<u32, AsmKind>
     ensures value { result ≡ token_value (token_in token.entry) (natural_in high) }
     ensures range { IfOk result (λ n. n ≤ high) }
 {
@@ -86,7 +86,7 @@ pub fn natural(token: Result<Token<'_>, Kind>, high: u32) -> Result<u32, Kind>
 }
 
 /// A multiple of 4 from 0 to `high`. `BadToken` where the token is no number, `BadNumber` where it is another one.
-pub fn offset(token: Result<Token<'_>, Kind>, high: u32) -> Result<u32, Kind>
+pub fn offset(token: Result<Token<'_>, AsmKind>, high: u32) -> Result<u32, AsmKind>
     ensures value { result ≡ token_value (token_in token.entry) (offset_in high) }
     ensures range { IfOk result (λ n. n ≤ high) }
 {
@@ -94,6 +94,6 @@ pub fn offset(token: Result<Token<'_>, Kind>, high: u32) -> Result<u32, Kind>
     if n % 4 == 0 {
         Ok(n)
     } else {
-        Err(Kind::BadNumber)
+        Err(AsmKind::BadNumber)
     }
 }

@@ -1,13 +1,13 @@
 //! The statements, each by its fields, which stand behind its name.
-ghost use Rattle.std.specs.Prelude.{◌≡◌, map};
-ghost use Rattle.spur_asm.specs.Context.{immediate_of, placed_of};
+ghost use Rattle.std.specs.Prelude.{◌≡◌};
+ghost use Rattle.spur_asm.specs.Context.{immediate_of};
 ghost use Rattle.spur_asm.specs.Statements.{access_at, addi_at, branch_at, call_at, fields_at, jmp_at, li_at, lih_at, one_at, operation_at, page_text_at, seg_at, three_at, word_text_at};
 
 use crate::cursor::Cursor;
 use crate::fault::Misfit;
-use crate::label::Label;
 use crate::number::low_word;
 use crate::statement::{Context, Operation, Sort, Statement};
+use crate::table::Labels;
 use spur_addr::GlobalAddr;
 use spur_isa::{Instr, Reg};
 use spur_object::{PageText, WordText};
@@ -128,12 +128,12 @@ fn access(line: &mut Cursor<'_>) -> Result<(Reg, Reg, i16), Misfit>
 
 /// The operands `a, b, label` of a branch, as a, b and the immediate that leads to the label.
 #[tactic(auto, unfolding(crate::specs::Statements::branch_at))]
-fn branch(
-    labels: &[Label<'_>],
+fn branch<'a>(
+    labels: &Labels<'a>,
     context: Context,
-    line: &mut Cursor<'_>,
+    line: &mut Cursor<'a>,
 ) -> Result<(Reg, Reg, i16), Misfit>
-    ensures { result ≡ branch_at (immediate_of (map placed_of labels.now) context) line.old }
+    ensures { result ≡ branch_at (immediate_of labels.now context) line.old }
 {
     let a = line.register()?;
     line.mark(b',')?;
@@ -145,8 +145,8 @@ fn branch(
 
 /// The operand `label` of `jmp`, as the immediate that leads to it.
 #[tactic(auto, unfolding(crate::specs::Statements::jmp_at))]
-fn jmp(labels: &[Label<'_>], context: Context, line: &mut Cursor<'_>) -> Result<i16, Misfit>
-    ensures { result ≡ jmp_at (immediate_of (map placed_of labels.now) context) line.old }
+fn jmp<'a>(labels: &Labels<'a>, context: Context, line: &mut Cursor<'a>) -> Result<i16, Misfit>
+    ensures { result ≡ jmp_at (immediate_of labels.now context) line.old }
 {
     let i = line.label(labels, context)?;
     line.end(i)
@@ -154,8 +154,12 @@ fn jmp(labels: &[Label<'_>], context: Context, line: &mut Cursor<'_>) -> Result<
 
 /// The operands `a, label` of `call`, as a and the immediate that leads to the label.
 #[tactic(auto, unfolding(crate::specs::Statements::call_at))]
-fn call(labels: &[Label<'_>], context: Context, line: &mut Cursor<'_>) -> Result<(Reg, i16), Misfit>
-    ensures { result ≡ call_at (immediate_of (map placed_of labels.now) context) line.old }
+fn call<'a>(
+    labels: &Labels<'a>,
+    context: Context,
+    line: &mut Cursor<'a>,
+) -> Result<(Reg, i16), Misfit>
+    ensures { result ≡ call_at (immediate_of labels.now context) line.old }
 {
     let a = line.register()?;
     line.mark(b',')?;
@@ -164,13 +168,13 @@ fn call(labels: &[Label<'_>], context: Context, line: &mut Cursor<'_>) -> Result
 }
 
 /// The instruction of an operation, by its operands up to the end of the line.
-fn instr(
-    labels: &[Label<'_>],
+fn instr<'a>(
+    labels: &Labels<'a>,
     context: Context,
     operation: Operation,
-    line: &mut Cursor<'_>,
+    line: &mut Cursor<'a>,
 ) -> Result<Instr, Misfit>
-    ensures { result ≡ operation_at (immediate_of (map placed_of labels.now) context) operation line.old }
+    ensures { result ≡ operation_at (immediate_of labels.now context) operation line.old }
 {
     match operation {
         Operation::Halt => line.end(Instr::Halt),
@@ -203,13 +207,13 @@ fn instr(
 
 /// The statement of this sort, of the fields that stand behind its name up to the end of the line. `labels` are those
 /// of all lines, and `context` is what stands before this one.
-pub fn statement(
-    labels: &[Label<'_>],
+pub fn statement<'a>(
+    labels: &Labels<'a>,
     context: Context,
     sort: Sort,
-    line: &mut Cursor<'_>,
+    line: &mut Cursor<'a>,
 ) -> Result<Statement, Misfit>
-    ensures { result ≡ fields_at (immediate_of (map placed_of labels.now) context) sort line.old }
+    ensures { result ≡ fields_at (immediate_of labels.now context) sort line.old }
 {
     match sort {
         Sort::Page => Ok(Statement::Page(page(line)?)),

@@ -1,6 +1,6 @@
 //! Whole texts, and what they are assembled to.
 
-use crate::{AsmFault, assemble};
+use crate::{AsmFault, AsmKind, assemble};
 use spur_addr::Protection;
 use spur_isa::encode;
 use spur_object::{BoardText, PageText, Unit};
@@ -52,10 +52,19 @@ fn joined(alloc: Global, one: &[u8], other: &[u8]) -> Result<Vec<u8>, AllocError
     Ok(text)
 }
 
-/// Asks that a text is not understood.
-fn refused(alloc: Global, text: &[u8]) -> Result<(), Fail> {
-    match assemble(alloc, text) {
-        Err(AsmFault::NotYet) => Ok(()),
+/// The unit of a text that is not too long for a place to have 32 bits.
+fn assembled(alloc: Global, text: &[u8]) -> Result<Unit, AsmFault> {
+    if text.len() > 10_000_000 {
+        return Err(AsmFault::NoMemory);
+    }
+    assemble(alloc, text)
+}
+
+/// Asks that a text has this fault first.
+fn has_fault(alloc: Global, text: &[u8], fault: (AsmKind, u32, u32)) -> Result<(), Fail> {
+    match assembled(alloc, text) {
+        Err(AsmFault::Bad { kind, line, column }) if (kind, line, column) == fault => Ok(()),
+        Err(AsmFault::Bad { .. }) => Err(Fail::from("another fault")),
         Err(AsmFault::NoMemory) => Err(Fail::from("memory is wanting")),
         Ok(_) => Err(Fail::from("a text was understood")),
     }
@@ -208,7 +217,7 @@ fn each_instruction_is_this(rt: HostRuntime) -> Result<(), Fail> {
             statement,
         )?;
         let text = joined(rt.alloc(), text.as_slice(), b"\nnop\nbehind: .board\n")?;
-        let unit = assemble(rt.alloc(), text.as_slice())?;
+        let unit = assembled(rt.alloc(), text.as_slice())?;
         let [board, _] = unit.boards.as_slice() else {
             return Err(Fail::from("two boards"));
         };
@@ -247,74 +256,169 @@ fn segments_pages_and_words_stand_anywhere(rt: HostRuntime) -> Result<(), Fail> 
     Ok(())
 }
 
+/// A text of so many of these lines, and then of these.
+fn behind(alloc: Global, line: &[u8], count: usize, rest: &[u8]) -> Result<Vec<u8>, AllocError> {
+    let lines = repeated(alloc, line, count)?;
+    joined(alloc, lines.as_slice(), rest)
+}
+
 #[test]
 fn limits_are_reached_and_not_passed(rt: HostRuntime) -> Result<(), Fail> {
+    // a line, how often it may stand, what stands behind it, and the place of the fault where it stands once more
+    let rows = [
+        (
+            b".board\n".as_slice(),
+            12,
+            b"x: .board 5\n".as_slice(),
+            13u32,
+            4u32,
+        ),
+        (
+            b".page 255 0 rw\n".as_slice(),
+            2048,
+            b"\t.page @\n.board\n".as_slice(),
+            2049,
+            2,
+        ),
+        (
+            b".word 0 0 0\n".as_slice(),
+            65536,
+            b".word 1 4 5\n.board\n".as_slice(),
+            65537,
+            1,
+        ),
+    ];
+    for (line, most, once_more, number, column) in rows {
+        let full = behind(rt.alloc(), line, most, b".board\n")?;
+        let begins_board = line == b".board\n".as_slice();
+        assert_eq!(rt;
+            assembled(rt.alloc(), full.as_slice()).is_ok(),
+            !begins_board
+        );
+        let past = behind(rt.alloc(), line, most, once_more)?;
+        has_fault(
+            rt.alloc(),
+            past.as_slice(),
+            (AsmKind::Limit, number, column),
+        )?;
+    }
     let boards = repeated(rt.alloc(), b".board\n", 12)?;
-    let unit = assemble(rt.alloc(), boards.as_slice())?;
-    assert_eq!(rt; unit.boards.len(), 12);
-    let boards = repeated(rt.alloc(), b".board\n", 13)?;
-    refused(rt.alloc(), boards.as_slice())?;
+    assert_eq!(rt; assembled(rt.alloc(), boards.as_slice())?.boards.len(), 12);
     let nops = repeated(rt.alloc(), b"nop\n", 4096)?;
     let full = joined(rt.alloc(), b".board\n", nops.as_slice())?;
-    let unit = assemble(rt.alloc(), full.as_slice())?;
-    assert_eq!(rt; unit.boards.len(), 1);
-    let past = joined(rt.alloc(), full.as_slice(), b"nop\n")?;
-    refused(rt.alloc(), past.as_slice())?;
-    // a page may be declared again, which the loader refuses
-    let pages = repeated(rt.alloc(), b".page 255 0 rw\n", 2048)?;
-    let full = joined(rt.alloc(), pages.as_slice(), b".board\n")?;
-    let unit = assemble(rt.alloc(), full.as_slice())?;
-    assert_eq!(rt; unit.pages.len(), 2048);
-    let past = joined(rt.alloc(), full.as_slice(), b".page 0 0 rw\n")?;
-    refused(rt.alloc(), past.as_slice())?;
+    assert_eq!(rt; assembled(rt.alloc(), full.as_slice())?.boards.len(), 1);
+    let past = joined(rt.alloc(), full.as_slice(), b"y: halt 5\nfoo\n")?;
+    has_fault(rt.alloc(), past.as_slice(), (AsmKind::Limit, 4098, 4))?;
     for (length, fits) in [(64, true), (65, false)] {
         let name = repeated(rt.alloc(), b"n", length)?;
         let text = joined(rt.alloc(), b".board\n", name.as_slice())?;
         let text = joined(rt.alloc(), text.as_slice(), b": halt")?;
-        assert_eq!(rt; assemble(rt.alloc(), text.as_slice()).is_ok(), fits);
+        assert_eq!(rt; assembled(rt.alloc(), text.as_slice()).is_ok(), fits);
     }
     Ok(())
 }
 
 #[test]
-fn what_is_not_understood(rt: HostRuntime) -> Result<(), Fail> {
-    let rows = [
-        // no board, or something that stands before one
-        b"".as_slice(),
-        b".page 0 0 rw\n; only\n".as_slice(),
-        b"x:\n.board\n".as_slice(),
-        b"x: .board\n".as_slice(),
-        b"halt\n.board\n".as_slice(),
-        b".seg 0 1 2 3\n.board\n".as_slice(),
-        // twice
-        b".board\nx:\nx:\n".as_slice(),
-        b".board\nx:\nx: .board\n".as_slice(),
-        b".board\n.seg 0 1 2 3\n.seg 0 1 2 3\n".as_slice(),
-        // no label
-        b".board\njmp x\n.board\nx:\n".as_slice(),
-        // unknown names
-        b".board\nli r16, 1\n".as_slice(),
-        b".board\nli r01, 1\n".as_slice(),
-        b".board\nfoo r1\n".as_slice(),
-        b".board\n.x: halt\n".as_slice(),
-        b".page 0 0 RW\n.board\n".as_slice(),
-        // numbers
-        b".board\nli r1, 32768\n".as_slice(),
-        b".board\nli r1, 00000000001\n".as_slice(),
-        b".board\nli r1, 0x000000001\n".as_slice(),
-        b".board\nli r1, 0X1\n".as_slice(),
-        b".board\nli r1, --5\n".as_slice(),
-        b".page 0 0 rw\n.word 0 6 1\n.board\n".as_slice(),
-        // tokens and bytes
-        b".board\nld r1 64(r0)\n".as_slice(),
-        b".board\nli r1,; 5\n".as_slice(),
-        b".board\nli-5\n".as_slice(),
-        b".board\nhalt @\n".as_slice(),
-        b".board\nhalt \x80\n".as_slice(),
-        b".board\nx: y: halt\n".as_slice(),
+fn the_first_fault_is_told(rt: HostRuntime) -> Result<(), Fail> {
+    // a text, and the line and the column of its first fault
+    let bad_bytes = [
+        (b".board\nhalt \x80\n".as_slice(), 2u32, 6u32),
+        (b".board\n\x01x: halt\njmp x\n".as_slice(), 2, 1),
     ];
-    for text in rows {
-        refused(rt.alloc(), text)?;
+    for (text, line, column) in bad_bytes {
+        has_fault(rt.alloc(), text, (AsmKind::BadByte, line, column))?;
+    }
+    let bad_tokens = [
+        // before the first board
+        (b"x:\n.board\n".as_slice(), 1u32, 1u32),
+        (b"x: .board\njmp x\n".as_slice(), 1, 1),
+        (b"\n; only\n halt\n.board\n".as_slice(), 3, 2),
+        (b" \t.seg 0 1 2 3\n.board\n".as_slice(), 1, 3),
+        (b"$ .board\nhalt\n".as_slice(), 1, 1),
+        // another token, or none, is wanted
+        (b".board\nld r1 64(r0)\n".as_slice(), 2, 7),
+        (b".board\nld r1, (r0)\n".as_slice(), 2, 8),
+        (b".board\nadd 5, r1, r1\n".as_slice(), 2, 5),
+        (b".board\nbeq r1, 0, x\n".as_slice(), 2, 9),
+        (b".board\nli-5\n".as_slice(), 2, 3),
+        (b".board\nx:: halt\n".as_slice(), 2, 3),
+        (b".board\nhalt @\n".as_slice(), 2, 6),
+        (b".board\nnop # c\n".as_slice(), 2, 5),
+        (b".board\nli r1, 5_\n".as_slice(), 2, 9),
+        // the line ends too early
+        (b".board\nli r1,\n".as_slice(), 2, 7),
+        (b".board\nli r1 ; 5\n".as_slice(), 2, 7),
+        (b".board\nadd r1, r2".as_slice(), 2, 11),
+        // a blank is wanting
+        (b".board\n.word 0 4-3\n".as_slice(), 2, 10),
+    ];
+    for (text, line, column) in bad_tokens {
+        has_fault(rt.alloc(), text, (AsmKind::BadToken, line, column))?;
+    }
+    let bad_numbers = [
+        (b".board\nli r1, 40000\n".as_slice(), 2u32, 8u32),
+        (b".board\nli r1, 0x10000\n".as_slice(), 2, 8),
+        (b".board\nli r1, 00000000001\n".as_slice(), 2, 8),
+        (b".board\nli r1, 0x000000001\n".as_slice(), 2, 8),
+        (b".board\nli r1, 0X1\n".as_slice(), 2, 8),
+        (b".board\nli r1, --5\n".as_slice(), 2, 8),
+        (b".word 0 6 1\n.board\n".as_slice(), 1, 9),
+        (b".page 0 0rw\n.board\n".as_slice(), 1, 9),
+        (b".board\nli 5x, 1\n".as_slice(), 2, 4),
+        (b".board\nnop 5x\n".as_slice(), 2, 5),
+    ];
+    for (text, line, column) in bad_numbers {
+        has_fault(rt.alloc(), text, (AsmKind::BadNumber, line, column))?;
+    }
+    Ok(())
+}
+
+#[test]
+fn names_and_boards_are_told(rt: HostRuntime) -> Result<(), Fail> {
+    let unknown = [
+        (b".board\nli r16, 1\n".as_slice(), 2u32, 4u32),
+        (b".board\nli r01, 1\n".as_slice(), 2, 4),
+        (b".board\nli R1, 4\n".as_slice(), 2, 4),
+        (b".board\nLd r1, 4(r0)\n".as_slice(), 2, 1),
+        (b".board\nloop halt\n".as_slice(), 2, 1),
+        (b"foo\n.board\n".as_slice(), 1, 1),
+        (b".board\n.x: halt\n".as_slice(), 2, 1),
+        (b".board\nx: y: halt\n".as_slice(), 2, 4),
+        (b".page 0 0 RW\n.board\n".as_slice(), 1, 11),
+        // two faults in a line, and another in the next
+        (b".board\n\nli r16, 40000 @\njmp x\n".as_slice(), 3, 4),
+    ];
+    for (text, line, column) in unknown {
+        has_fault(rt.alloc(), text, (AsmKind::UnknownName, line, column))?;
+    }
+    let twice = [
+        (b".board\nx:\n x: halt 5\n".as_slice(), 3u32, 2u32),
+        (b".board\nx:\nx: .board\n".as_slice(), 3, 1),
+        (b".board\n.seg 0 1 2 3\nx: .seg 0\n".as_slice(), 3, 4),
+    ];
+    for (text, line, column) in twice {
+        has_fault(rt.alloc(), text, (AsmKind::Twice, line, column))?;
+    }
+    let no_label = [
+        (b".board\njmp x\n.board\nx:\n".as_slice(), 2u32, 5u32),
+        (b".board\njmp.x\n".as_slice(), 2, 4),
+        (b".board\nx: .board\njmp x\n".as_slice(), 3, 5),
+    ];
+    for (text, line, column) in no_label {
+        has_fault(rt.alloc(), text, (AsmKind::NoLabel, line, column))?;
+    }
+    for text in [b"".as_slice(), b".page 0 0 rw\n; only\n".as_slice()] {
+        has_fault(rt.alloc(), text, (AsmKind::NoBoard, 1, 1))?;
+    }
+    // seventeen pages and a fault behind them; a label on a board's line; a word before its page
+    let pages = behind(rt.alloc(), b".page 0 0 rw\n", 17, b"halt\n")?;
+    has_fault(rt.alloc(), pages.as_slice(), (AsmKind::BadToken, 18, 1))?;
+    let fine = [
+        b".board\njmp y\ny: .board\n".as_slice(),
+        b".word 0 0 1\n.page 0 0 rw\n.board\n".as_slice(),
+    ];
+    for text in fine {
+        assert_eq!(rt; assembled(rt.alloc(), text).is_ok(), true);
     }
     Ok(())
 }

@@ -1,6 +1,6 @@
 //! What a line is made of.
 
-use crate::fault::Kind;
+use crate::fault::AsmKind;
 
 /// A token: a name, a number, or one of the marks `,` `:` `(` `)`.
 #[derive(Clone, Copy)]
@@ -13,7 +13,7 @@ pub enum Token<'a> {
 /// A token as it stands in its line, or what is wrong with it by itself.
 #[derive(Clone, Copy)]
 pub struct Lexeme<'a> {
-    pub token: Result<Token<'a>, Kind>,
+    pub token: Result<Token<'a>, AsmKind>,
 
     /// Whether it is a name or a number, and no blank parts it from the name or the number before.
     pub glued: bool,

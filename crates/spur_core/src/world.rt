@@ -64,25 +64,3 @@ impl<C, B> World<C, B> {
         (store, boards)
     }
 }
-
-#[cfg(test)]
-mod tests {
-    use super::*;
-    use spur_cpu::Cpu;
-    use spur_swap::Backing;
-
-    /// Takes a value that may go to another thread.
-    fn take_sendable<T: Send + Drop>(_value: T) {}
-
-    /// A world whose processors and swap object may go to another thread may go there: each of its parts may.
-    fn take_world<C: Cpu + Send, B: Backing + Send + Drop>(world: World<C, B>) {
-        let World {
-            store,
-            boards,
-            beginning,
-        } = world;
-        take_sendable(store);
-        take_sendable(boards);
-        take_sendable(beginning);
-    }
-}

@@ -6,6 +6,9 @@ use Rattle.spur_object.specs.Limits.{IsUnit}
 use Rattle.spur_object.specs.declared.unit.Unit.{Unit as Program}
 use Rattle.spur_asm.specs.Says.{Says}
 use Rattle.spur_asm.specs.Text.{unit_of}
+use Rattle.spur_asm.specs.Told.{Told, told_of}
+use Rattle.spur_asm.specs.Faults.{IsFirstFault}
+use Rattle.spur_asm.specs.declared.fault.AsmKind.{AsmKind}
 use Rattle.spur_loader.specs.declared.opening.Opening.{Opening}
 use Rattle.spur_loader.specs.declared.opening.Options.{Options}
 use Rattle.spur_loader.specs.declared.fault.LoadFault.{LoadFault}
@@ -16,7 +19,7 @@ use Rattle.spur_loader.specs.declared.fault.LoadFault.TheVariants.{NoMemory}
 use Rattle.spur_program.specs.declared.input.NotOpened.{NotOpened}
 use Rattle.spur_program.specs.declared.input.NotOpened.TheVariants as unopened
 use Rattle.spur_program.specs.declared.refusal.Refusal.{Refusal}
-use Rattle.spur_program.specs.declared.refusal.Refusal.TheVariants.{TooLong, NotYet, Load}
+use Rattle.spur_program.specs.declared.refusal.Refusal.TheVariants.{TooLong, Text, Load}
 use Rattle.spur_program.specs.declared.words.Task.{Task}
 use Rattle.spur_program.specs.Words.{task_of}
 
@@ -40,19 +43,24 @@ pub record IsAccepted (words : List (List ℕ)) (text : List ℕ) (task : Task) 
 
 -- why what a text says is refused
 abbrev pub unit_refusal : Options → Option Program → Option Refusal
-unit_refusal options None = Some NotYet
+unit_refusal options None = None
 unit_refusal options (Some unit) = option_map Load (load_fault_of unit options)
+
+-- why a text is refused that has this first fault, or none and says this unit
+abbrev pub text_refusal : Options → Option Told → Option Program → Option Refusal
+text_refusal options (Some told) said = Some (Text told.kind told.line told.column)
+text_refusal options None said = unit_refusal options said
 
 -- why a text is refused
 abbrev pub input_refusal : Options → List ℕ → Option Refusal
-input_refusal options text = if nat_lt input_limit (length text) then Some TooLong else unit_refusal options (unit_of text)
+input_refusal options text = if nat_lt input_limit (length text) then Some TooLong else text_refusal options (told_of text) (unit_of text)
 
--- why a text is refused, by what it says: it has too many bytes; it says no unit; a load fault applies to the unit that it says; or
+-- why a text is refused, by what it says: it has too many bytes; it has a first fault; a load fault applies to the unit that it says; or
 -- none of these, and it is not refused
 pub data IsRefused (options : Options) (text : List ℕ) : Option Refusal → Type 0 where
   IsLong : input_limit < length text → IsRefused options text (Some TooLong)
-  SaysNothing : length text ≤ input_limit → ((unit : Program) → Says text unit → ⊥)
-      → IsRefused options text (Some NotYet)
+  HasFirstFault : length text ≤ input_limit → (line column : ℕ) (kind : AsmKind) → IsFirstFault text line column kind
+      → IsRefused options text (Some (Text kind line column))
   IsNotLoaded : length text ≤ input_limit → (unit : Program) → Says text unit → (why : LoadFault)
       → load_fault_of unit options ≡ Some why
       → IsRefused options text (Some (Load why))

@@ -11,7 +11,9 @@ use Rattle.spur_board.specs.declared.ending.Ending.TheVariants.{Halted, Faulted,
 use Rattle.spur_program.specs.declared.report.BoardReport.{BoardReport}
 use Rattle.spur_program.specs.declared.report.Report.{Report}
 use Rattle.spur_program.specs.declared.refusal.Refusal.{Refusal}
-use Rattle.spur_program.specs.declared.refusal.Refusal.TheVariants.{TooLong, NotYet, Load}
+use Rattle.spur_program.specs.declared.refusal.Refusal.TheVariants.{TooLong, Text, Load}
+use Rattle.spur_asm.specs.declared.fault.AsmKind.{AsmKind}
+use Rattle.spur_asm.specs.declared.fault.AsmKind.TheVariants.{BadByte, BadToken, BadNumber, UnknownName, Twice, NoLabel, Limit, NoBoard}
 use Rattle.spur_loader.specs.declared.fault.LoadFault.{LoadFault}
 use Rattle.spur_loader.specs.declared.fault.LoadFault.TheVariants.{Segment255, PageTwice, WordOutside, NoRoom, NoMemory}
 
@@ -100,8 +102,32 @@ load_line (WordOutside at) = codes "refused: load: word outside " ++ address_dig
 load_line (NoRoom frames) = codes "refused: load: no room " ++ decimal frames ++ feed
 load_line NoMemory = []
 
+-- the words for a kind of fault of a text
+abbrev pub kind_words : AsmKind → List ℕ
+kind_words BadByte = codes "bad byte"
+kind_words BadToken = codes "bad token"
+kind_words BadNumber = codes "bad number"
+kind_words UnknownName = codes "unknown name"
+kind_words Twice = codes "name twice"
+kind_words NoLabel = codes "no label"
+kind_words Limit = codes "limit"
+kind_words NoBoard = codes "no board"
+
+-- a number behind bytes
+unfoldable pub number_text : List ℕ → ℕ → List ℕ
+number_text before number = before ++ decimal number
+
+-- the place of a fault in a text: its line and its column, which are counted from 1
+unfoldable pub place_text : ℕ → ℕ → List ℕ
+place_text line column =
+    number_text (codes "refused: line ") line ++ number_text (codes " column ") column ++ codes ": "
+
+-- the refusal of a text for its first fault
+abbrev pub fault_line : AsmKind → ℕ → ℕ → List ℕ
+fault_line kind line column = place_text line column ++ kind_words kind ++ feed
+
 -- the refusal of an input
 abbrev pub refusal_line : Refusal → List ℕ
 refusal_line TooLong = codes "refused: more than 1048576 bytes" ++ feed
-refusal_line NotYet = codes "refused: not yet" ++ feed
+refusal_line (Text kind line column) = fault_line kind line column
 refusal_line (Load fault) = load_line fault

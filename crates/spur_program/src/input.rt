@@ -6,7 +6,7 @@ ghost use Rattle.spur_program.specs.declared.refusal.Refusal.{Refusal as Reason}
 ghost use Rattle.spur_program.specs.Accepted.{IsLoadedOpening, IsOpeningOfText, input_limit, not_loaded, input_refusal};
 
 use crate::refusal::Refusal;
-use spur_asm::{AsmFault, assemble};
+use spur_asm::{AsmFault, AsmKind, assemble};
 use spur_loader::{LoadFault, Opening, Options, load};
 use std::alloc::Global;
 
@@ -29,6 +29,13 @@ fn not_loaded(fault: LoadFault) -> NotOpened
     }
 }
 
+/// A text with this first fault.
+fn bad_text(kind: AsmKind, line: u32, column: u32) -> NotOpened
+    ensures { result ≡ NotOpened.Refused (Reason.Text kind line column) }
+{
+    NotOpened::Refused(Refusal::Text { kind, line, column })
+}
+
 /// The opening of the unit that a text says, with these options; or why the text is refused.
 pub fn opening_of(alloc: Global, text: &[u8], options: &Options) -> Result<Opening, NotOpened>
     requires within { length text.now ≤ input_limit }
@@ -41,7 +48,7 @@ pub fn opening_of(alloc: Global, text: &[u8], options: &Options) -> Result<Openi
 {
     let unit = match assemble(alloc, text) {
         Ok(unit) => unit,
-        Err(AsmFault::NotYet) => return Err(NotOpened::Refused(Refusal::NotYet)),
+        Err(AsmFault::Bad { kind, line, column }) => return Err(bad_text(kind, line, column)),
         Err(AsmFault::NoMemory) => return Err(NotOpened::NoMemory),
     };
     match load(alloc, &unit, options) {

@@ -4,11 +4,12 @@ ghost use Rattle.std.specs.Prelude.{◌≡◌, ◌%◌, ◌++◌, ◌∷◌, [],
 ghost use Rattle.std.specs.List.{flat_map};
 ghost use Rattle.std.specs.Char.{digit_char};
 ghost use Rattle.std.specs.Fmt.{decimal};
-ghost use Rattle.spur_program.specs.Texts.{address_digits, ending_line, ending_text, fault_text, fault_word, load_line, refusal_line, spaced_word, registers_line, report_text, row_text, rows_text, shown_line, word_digits, words_line};
+ghost use Rattle.spur_program.specs.Texts.{address_digits, ending_line, ending_text, fault_line, fault_text, fault_word, kind_words, load_line, number_text, place_text, refusal_line, spaced_word, registers_line, report_text, row_text, rows_text, shown_line, word_digits, words_line};
 
 use crate::refusal::Refusal;
 use crate::report::{BoardReport, Report};
 use spur_addr::GlobalAddr;
+use spur_asm::AsmKind;
 use spur_board::Ending;
 use spur_flat::FaultKind;
 use spur_loader::LoadFault;
@@ -41,10 +42,92 @@ pub fn refusal_line(alloc: Global, refusal: Refusal) -> Result<Vec<u8>, AllocErr
     let mut out = Vec::new(alloc);
     match refusal {
         Refusal::TooLong => put(&mut out, b"refused: more than 1048576 bytes\n")?,
-        Refusal::NotYet => put(&mut out, b"refused: not yet\n")?,
+        Refusal::Text { kind, line, column } => {
+            put_fault_line(alloc, &mut out, kind, line, column)?;
+        }
         Refusal::Load(fault) => put_load_line(alloc, &mut out, fault)?,
     }
     Ok(out)
+}
+
+/// Writes the line that refuses a text for its first fault.
+fn put_fault_line(
+    alloc: Global,
+    out: &mut Vec<u8>,
+    kind: AsmKind,
+    line: u32,
+    column: u32,
+) -> Result<(), AllocError>
+    ensures { OnOk result (out.new.items ≡ out.old.items ++ fault_line kind line column) }
+{
+    put_place(alloc, out, line, column)?;
+    put(out, kind_words(kind))?;
+    put(out, b"\n")
+}
+
+/// Writes the front of that line, with the place of the fault.
+#[tactic(auto, unfolding(crate::specs::Texts::place_text))]
+fn put_place(alloc: Global, out: &mut Vec<u8>, line: u32, column: u32) -> Result<(), AllocError>
+    ensures { OnOk result (out.new.items ≡ out.old.items ++ place_text line column) }
+{
+    put_numbers(
+        alloc,
+        out,
+        b"refused: line ",
+        line,
+        b" column ",
+        column,
+        b": ",
+    )
+}
+
+/// Writes two numbers, each behind bytes, and the bytes that follow them.
+fn put_numbers(
+    alloc: Global,
+    out: &mut Vec<u8>,
+    first: &[u8],
+    line: u32,
+    second: &[u8],
+    column: u32,
+    third: &[u8],
+) -> Result<(), AllocError>
+    ensures { OnOk result (out.new.items
+        ≡ out.old.items ++ (number_text first.now line ++ number_text second.now column ++ third.now)) }
+{
+    put_number(alloc, out, first, line)?;
+    put_number(alloc, out, second, column)?;
+    put(out, third)
+}
+
+/// Writes a number behind bytes.
+#[tactic(auto, unfolding(crate::specs::Texts::number_text))]
+fn put_number(
+    alloc: Global,
+    out: &mut Vec<u8>,
+    before: &[u8],
+    number: u32,
+) -> Result<(), AllocError>
+    ensures { OnOk result (out.new.items ≡ out.old.items ++ number_text before.now number) }
+{
+    put(out, before)?;
+    let digits = format!(in alloc; "{number}")?;
+    put(out, digits.as_bytes())
+}
+
+/// The words for a kind of fault of a text.
+fn kind_words(kind: AsmKind) -> &'static [u8]
+    ensures { result.now ≡ kind_words kind }
+{
+    match kind {
+        AsmKind::BadByte => b"bad byte",
+        AsmKind::BadToken => b"bad token",
+        AsmKind::BadNumber => b"bad number",
+        AsmKind::UnknownName => b"unknown name",
+        AsmKind::Twice => b"name twice",
+        AsmKind::NoLabel => b"no label",
+        AsmKind::Limit => b"limit",
+        AsmKind::NoBoard => b"no board",
+    }
 }
 
 /// Writes the line that refuses a unit which can't be loaded. Want of memory has none.
@@ -376,7 +459,14 @@ mod tests {
         let at = GlobalAddr::of(0x39_abcd_ef02).ok_or("below 2^38")?;
         let rows = [
             (Refusal::TooLong, "refused: more than 1048576 bytes\n"),
-            (Refusal::NotYet, "refused: not yet\n"),
+            (
+                Refusal::Text {
+                    kind: AsmKind::Twice,
+                    line: 12,
+                    column: 4294967295,
+                },
+                "refused: line 12 column 4294967295: name twice\n",
+            ),
             (
                 Refusal::Load(LoadFault::Segment255),
                 "refused: load: segment 255\n",

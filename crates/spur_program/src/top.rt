@@ -245,7 +245,7 @@ pub fn spur_alone<S: Source, K: Sink, B: Backing>(
     ensures fine { result.status ≡ Status.Fine → ReportsHalted true result }
     ensures ended { result.status ≡ Status.Ended → ReportsHalted false result }
 
-    // The words are refused exactly where they are not of the table; the input only where it is too long, says no unit or
+    // The words are refused exactly where they are not of the table; the input only where it is too long, has a fault or
     // can't be loaded, and a told one of these always, but for faults in reading and writing and for want of memory.
     ensures refused_words { AnswersWords (task_in (texts words.now)) (K.written sink.old) (K.written sink.new) result }
     ensures refused_input { result.status ≡ Status.Input → IsInputRefused (texts words.now)

@@ -1,7 +1,9 @@
 //! Tests that drive several crates: whole runs from the words and a text to what is written, entry by entry where a
-//! history was worked out by hand.
+//! history was worked out by hand, and the calls of the core, one by one.
 #![tactic(auto)]
 
+#[cfg(test)]
+mod calls;
 #[cfg(test)]
 mod histories;
 #[cfg(test)]
@@ -11,4 +13,10 @@ mod reports;
 #[cfg(test)]
 mod runs;
 #[cfg(test)]
+mod swaps;
+#[cfg(test)]
 mod texts;
+#[cfg(test)]
+mod untold;
+#[cfg(test)]
+mod worlds;

@@ -2,12 +2,12 @@
 
 ghost use Rattle.std.specs.Prelude.{◌<◌};
 
-use crate::runs::{report_of, words_of};
-use crate::texts::{ONE_FRAME_BESIDE, ONE_FRAME_READ, SUM};
+use crate::runs::{answer_of, report_of, words_of};
+use crate::texts::SUM;
 use spur_board::Ending;
 use spur_io::{SinkMemory, SinkSure, SourceMemory, SourceSure};
-use spur_program::{Outcome, Report, Status, spur_alone};
-use spur_swap::{SwapMemory, SwapTest};
+use spur_program::{Outcome, Status, spur_alone};
+use spur_swap::SwapMemory;
 use std::alloc::{AllocError, Global};
 use std::test::Fail;
 
@@ -119,13 +119,13 @@ const ROWS: &[Row] = &[
         words: RUN,
         text: b"",
         status: Status::Input,
-        written: b"refused: not yet\n",
+        written: b"refused: line 1 column 1: no board\n",
     },
     Row {
         words: RUN,
         text: b".board\njmp on\nhalt\n",
         status: Status::Input,
-        written: b"refused: not yet\n",
+        written: b"refused: line 2 column 5: no label\n",
     },
     // Labels, comments, blanks of all kinds, hexadecimal numbers, and a last line without its line feed.
     Row {
@@ -215,16 +215,7 @@ const ROWS: &[Row] = &[
 ];
 
 fn is_answered(alloc: Global, row: &Row) -> Result<bool, AllocError> {
-    let words = words_of(alloc, row.words)?;
-    let mut source = SourceSure::new(row.text.to_vec(alloc)?);
-    let mut sink = SinkSure::new(alloc, 4096)?;
-    let outcome = spur_alone(
-        alloc,
-        &words,
-        &mut source,
-        &mut sink,
-        SwapMemory::new(alloc),
-    );
+    let (outcome, sink) = answer_of(alloc, row.words, row.text, SwapMemory::new(alloc))?;
     Ok(outcome.status == row.status && sink.bytes() == row.written)
 }
 
@@ -275,16 +266,8 @@ fn a_sink_that_fails_has_a_front_of_the_line(rt: HostRuntime) -> Result<(), Fail
 #[test]
 fn one_byte_too_many_is_refused(rt: HostRuntime) -> Result<(), Fail> {
     let alloc = rt.alloc();
-    let words = words_of(alloc, RUN)?;
-    let mut source = SourceSure::new(vec![in alloc; b';'; 1_048_577]?);
-    let mut sink = SinkSure::new(alloc, 64)?;
-    let outcome = spur_alone(
-        alloc,
-        &words,
-        &mut source,
-        &mut sink,
-        SwapMemory::new(alloc),
-    );
+    let text = vec![in alloc; b';'; 1_048_577]?;
+    let (outcome, sink) = answer_of(alloc, RUN, &text, SwapMemory::new(alloc))?;
     assert_eq!(rt; outcome.status, Status::Input);
     assert_eq!(rt;
         sink.bytes(),
@@ -386,137 +369,26 @@ fn far_pages(alloc: Global, count: u32) -> Result<Vec<u8>, AllocError>
     Ok(text)
 }
 
-/// What is written on a text by `run` under the most frames.
-fn written_under_most_frames(
+/// The answer to a text by `run` under the most frames.
+fn answer_under_most_frames(
     alloc: Global,
-    text: Vec<u8>,
-) -> Result<(Status, Vec<u8>), AllocError> {
-    let words = words_of(alloc, &["run", "--frames", "3900"])?;
-    let mut sink = SinkSure::new(alloc, 4096)?;
-    let outcome = spur_alone(
+    text: &[u8],
+) -> Result<(Outcome<SwapMemory>, SinkSure), AllocError> {
+    answer_of(
         alloc,
-        &words,
-        &mut SourceSure::new(text),
-        &mut sink,
+        &["run", "--frames", "3900"],
+        text,
         SwapMemory::new(alloc),
-    );
-    Ok((outcome.status, sink.bytes().to_vec(alloc)?))
+    )
 }
 
 #[test]
 fn frames_and_tables_have_to_fit(rt: HostRuntime) -> Result<(), Fail> {
     let alloc = rt.alloc();
-    let (status, written) = written_under_most_frames(alloc, far_pages(alloc, 133)?)?;
-    assert_eq!(rt; status, Status::Input);
-    assert_eq!(rt;
-        written.as_slice(),
-        b"refused: load: no room 4097\n".as_slice()
-    );
-    let (status, _) = written_under_most_frames(alloc, far_pages(alloc, 132)?)?;
-    assert_eq!(rt; status, Status::Fine);
-    Ok(())
-}
-
-#[test]
-fn a_swap_that_fails_at_the_start_leaves_nothing_written(rt: HostRuntime) -> Result<(), Fail> {
-    let alloc = rt.alloc();
-    let words = words_of(alloc, RUN)?;
-    let mut source = SourceSure::new(SUM.to_vec(alloc)?);
-    let mut sink = SinkSure::new(alloc, 64)?;
-    let swap = SwapTest::new(alloc, Vec::new(alloc), [1].to_vec(alloc)?);
-    let outcome = spur_alone(alloc, &words, &mut source, &mut sink, swap);
-    assert_eq!(rt; outcome.status, Status::SwapAtStart);
-    assert_eq!(rt; sink.bytes().len(), 0);
-    assert_eq!(rt; outcome.backing.reads(), 0);
-    Ok(())
-}
-
-/// A call of the swap that fails in the run of two pages under one frame, and how board 0 ends then.
-struct Failing {
-    reads: &'static [u32],
-    writes: &'static [u32],
-    retired: u32,
-    entries: usize,
-}
-
-const FAILING: &[Failing] = &[
-    Failing {
-        reads: &[1],
-        writes: &[],
-        retired: 2,
-        entries: 3,
-    },
-    Failing {
-        reads: &[2],
-        writes: &[],
-        retired: 3,
-        entries: 14,
-    },
-    Failing {
-        reads: &[3],
-        writes: &[],
-        retired: 4,
-        entries: 24,
-    },
-    Failing {
-        reads: &[],
-        writes: &[1],
-        retired: 3,
-        entries: 13,
-    },
-    Failing {
-        reads: &[],
-        writes: &[2],
-        retired: 4,
-        entries: 23,
-    },
-];
-
-/// Whether board 0 ends by the swap as the table says, and board 1 halts.
-fn ends_by_swap(alloc: Global, row: &Failing) -> Result<bool, AllocError> {
-    let words = words_of(alloc, &["sched", "1", "--frames", "1"])?;
-    let mut source = SourceSure::new(ONE_FRAME_BESIDE.to_vec(alloc)?);
-    let mut sink = SinkSure::new(alloc, 4096)?;
-    let swap = SwapTest::new(alloc, row.reads.to_vec(alloc)?, row.writes.to_vec(alloc)?);
-    let outcome = spur_alone(alloc, &words, &mut source, &mut sink, swap);
-    let Outcome {
-        status,
-        report,
-        backing: _,
-    } = outcome;
-    let Some(report) = report else {
-        return Ok(false);
-    };
-    let [first, second] = report.boards.as_slice() else {
-        return Ok(false);
-    };
-    Ok(
-        status == Status::Ended
-            && first.ending == Some(Ending::SwapFault)
-            && first.retired == row.retired
-            && second.ending == Some(Ending::Halted)
-            && report.history.as_slice().len() == row.entries,
-    )
-}
-
-#[test]
-fn a_failing_swap_ends_the_board_that_asked(rt: HostRuntime) -> Result<(), Fail> {
-    for (i, row) in FAILING.iter().enumerate() {
-        assert!(rt; ends_by_swap(rt.alloc(), row)?, "row {i}");
-    }
-    Ok(())
-}
-
-#[test]
-fn pages_that_are_read_alone_are_not_written(rt: HostRuntime) -> Result<(), Fail> {
-    let alloc = rt.alloc();
-    let words = words_of(alloc, &["run", "--frames", "1"])?;
-    let mut source = SourceSure::new(ONE_FRAME_READ.to_vec(alloc)?);
-    let mut sink = SinkSure::new(alloc, 4096)?;
-    let swap = SwapTest::new(alloc, Vec::new(alloc), Vec::new(alloc));
-    let outcome = spur_alone(alloc, &words, &mut source, &mut sink, swap);
+    let (outcome, sink) = answer_under_most_frames(alloc, &far_pages(alloc, 133)?)?;
+    assert_eq!(rt; outcome.status, Status::Input);
+    assert_eq!(rt; sink.bytes(), b"refused: load: no room 4097\n".as_slice());
+    let (outcome, _) = answer_under_most_frames(alloc, &far_pages(alloc, 132)?)?;
     assert_eq!(rt; outcome.status, Status::Fine);
-    assert_eq!(rt; outcome.backing.reads(), 3);
-    assert_eq!(rt; outcome.backing.writes(), 0);
     Ok(())
 }

@@ -1,29 +1,39 @@
-use Rattle.std.proofs.Common.{◌≡◌, ◌∙◌, sym, rules, ◌+◌, ◌-◌, ◌≤◌, ◌==◌, false, length, map, Ok, Err, arith}
+use Rattle.std.proofs.Common.{◌≡◌, ◌∙◌, sym, ap, rules, ℕ, ◌+◌, ◌-◌, ◌≤◌, ◌==◌, false, length, List, Ok, Err, arith}
 use Rattle.std.specs.List.{before_first}
 use Rattle.spur_asm.specs.Bytes.{is_feed}
-use Rattle.spur_asm.specs.Context.{placed_of}
 use Rattle.spur_asm.specs.Step.{step_at}
-use Rattle.spur_asm.proofs.LineFacts.{after_first-shorter, draft_from-line, draft_from-fault, GivesDraft-fault, within_more}
+use Rattle.spur_asm.specs.Told.{answer_of, told_at}
+use Rattle.spur_asm.proofs.LineFacts.{after_first-shorter, draft_from-line, step_counted, told_from-fault, told_from-line, within_more, GivesDraft-told}
 use Rattle.spur_asm.proofs.assembler.draft_of.Goals as goal
 
-pub returns-in_err-statement : goal.returns-in_err-statement
-returns-in_err-statement c =
+pub returns-in-Err : goal.returns-in-Err
+returns-in-Err c =
     let text = c.loop-rest.rest.now in
-    let all = map placed_of c.args.labels.now in
+    let all = c.args.labels.now in
+    let number = c.loop-rest.number in
+    let misfit = c.in-Err.misfit in
     let some : (length text == 0) ≡ false = search rules in
-    let step : step_at all c.loop-rest.context (before_first is_feed text) ≡ Err c.in_err-statement.field-0.0 = rw (← c.split_line.ensures.line) (sym c.step.ensures.step ∙ c.in_err-statement.was) in
-    let fault = draft_from-fault all c.loop-rest.context c.loop-rest.draft text c.in_err-statement.field-0.0 some step in
-    GivesDraft-fault c.from_residual.result _ _ c.from_residual.ensures.1 (sym c.loop-rest.invariant.so_far ∙ fault)
+    let step : step_at all c.loop-rest.context (before_first is_feed text) ≡ Err misfit = rw (← c.split_line.ensures.line) (sym c.step.ensures.step ∙ c.in-Err.is) in
+    let fault = c.fault_in.ensures ∙ ap (λ (line : List ℕ). answer_of (told_at number line misfit)) c.split_line.ensures.line in
+    GivesDraft-told c.fault_in.result _ _ (told_at number (before_first is_feed text) misfit) fault (sym c.loop-rest.invariant.told ∙ told_from-fault all c.loop-rest.context number text misfit some step)
 
 pub loop-rest-preserved : goal.loop-rest-preserved
 loop-rest-preserved c =
     let text = c.loop-rest.rest.now in
-    let all = map placed_of c.args.labels.now in
+    let all = c.args.labels.now in
+    let number = c.loop-rest.number in
+    let statement = c.in-Ok.read.0 in
+    let next = c.in-Ok.read.1 in
+    let counted = c.loop-rest.invariant.number in
     let some : (length text == 0) ≡ false = search rules in
-    let step : step_at all c.loop-rest.context (before_first is_feed text) ≡ Ok (c.in_ok-statement.statement, c.in_ok-statement.next) = rw (← c.split_line.ensures.line) (sym c.step.ensures.step ∙ c.in_ok-statement.was) in
+    let step : step_at all c.loop-rest.context (before_first is_feed text) ≡ Ok (statement, next) = rw (← c.split_line.ensures.line) (sym c.step.ensures.step ∙ c.in-Ok.is) in
     let shorter : length c.split_line.result.1.now + 1 ≤ length text = after_first-shorter text _ some c.split_line.ensures.rest in
+    let so_long = c.loop-rest.invariant.shorter in
     record {
-      so_far = rw (c.split_line.ensures.rest, c.in_ok-add_line.ensures) (sym (draft_from-line all c.loop-rest.context c.in_ok-statement.next c.loop-rest.draft text c.in_ok-statement.statement some step) ∙ c.loop-rest.invariant.so_far);
-      shorter = omega arith;
-      within = within_more (length c.args.text.now - length text + 1) _ _ (c.in_ok-statement.ensures.within (length c.args.text.now - length text) c.loop-rest.invariant.within) (omega arith);
+      so_far = rw (c.split_line.ensures.rest, c.in_ok-add_line.ensures) (sym (draft_from-line all c.loop-rest.context next c.loop-rest.draft text statement some step) ∙ c.loop-rest.invariant.so_far);
+      told = rw c.split_line.ensures.rest (sym (told_from-line all c.loop-rest.context next number text statement some step) ∙ c.loop-rest.invariant.told);
+      counted = rw c.in_ok-add_line.ensures (step_counted all c.loop-rest.context next c.loop-rest.draft (before_first is_feed text) statement step c.loop-rest.invariant.counted);
+      shorter = omega (arith, shorter, so_long);
+      within = within_more (length c.args.text.now - length text + 1) _ _ (c.in-Ok.ensures.within (length c.args.text.now - length text) c.loop-rest.invariant.within) (omega (arith, shorter, so_long));
+      number = omega (arith, counted, shorter, so_long);
     }

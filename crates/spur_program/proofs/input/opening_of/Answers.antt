@@ -2,16 +2,17 @@ use Rattle.std.proofs.Common.{◌≡◌, Err, Some, ap, subst}
 use Rattle.spur_asm.specs.declared.fault.AsmFault.{AsmFault}
 use Rattle.spur_program.specs.declared.input.NotOpened.TheVariants as unopened
 use Rattle.spur_program.specs.declared.refusal.Refusal.{Refusal}
-use Rattle.spur_program.specs.declared.refusal.Refusal.TheVariants.{NotYet}
+use Rattle.spur_program.specs.declared.refusal.Refusal.TheVariants.{Text}
 use Rattle.spur_program.specs.Accepted.{not_loaded, input_refusal}
-use Rattle.spur_program.proofs.InputFacts.{is_loaded, load_refused, nothing_said}
+use Rattle.spur_program.proofs.InputFacts.{fault_told, is_loaded, load_refused}
 use Rattle.spur_program.proofs.input.opening_of.Goals as goal
 
-pub returns-in-Err-NotYet-clause-refused : goal.returns-in-Err-NotYet-clause-refused
-returns-in-Err-NotYet-clause-refused c = λ refusal is.
-    let same : NotYet ≡ refusal = cc in
-    let none = c.in-Err-NotYet.ensures.not_yet (ap (λ (f : AsmFault). Err f) c.in-Err-NotYet.field-0-is) in
-    subst (λ (r : Refusal). input_refusal c.args.options.now c.args.text.now ≡ Some r) same (nothing_said c.args.options.now c.args.text.now c.requires.within none)
+pub returns-in-Err-Bad-clause-refused : goal.returns-in-Err-Bad-clause-refused
+returns-in-Err-Bad-clause-refused c = λ refusal is.
+    let same : Text c.in-Err-Bad.kind c.in-Err-Bad.line c.in-Err-Bad.column ≡ refusal = cc in
+    let first = c.in-Err-Bad.ensures.first c.in-Err-Bad.kind c.in-Err-Bad.line c.in-Err-Bad.column (ap (λ (f : AsmFault). Err f) c.in-Err-Bad.field-0-is) in
+    subst (λ (r : Refusal). input_refusal c.args.options.now c.args.text.now ≡ Some r) same
+    (fault_told c.args.options.now c.args.text.now c.in-Err-Bad.kind c.in-Err-Bad.line c.in-Err-Bad.column c.requires.within first)
 
 pub returns-in-Ok-load-clause-loaded : goal.returns-in-Ok-load-clause-loaded
 returns-in-Ok-load-clause-loaded c =
