@@ -1,8 +1,8 @@
 //! The text of a report.
 
-ghost use Rattle.std.specs.Prelude.{◌≡◌, ◌<◌, ◌++◌, IfOk, OnOk};
+ghost use Rattle.std.specs.Prelude.{◌≡◌, ◌<◌, ◌++◌, IfOk, OnOk, true};
 ghost use Rattle.std.specs.List.{All, flat_map};
-ghost use Rattle.spur_flat.specs.WellFormed.{IsWellFormed};
+ghost use Rattle.spur_flat.specs.WellFormed.{HasWord, IsWellFormed};
 ghost use Rattle.spur_trace.specs.Formed.{IsHead};
 ghost use Rattle.spur_trace.specs.Line.{trace_text};
 ghost use Rattle.spur_report.specs.Counts.{counts_of};
@@ -22,11 +22,13 @@ use std::alloc::{AllocError, Global};
 ///
 /// A board has a line for its ending and the number of instructions that it completed, one for its registers, and one for
 /// each value that it showed. Each line is ended by a line feed. The head is in its ranges, and the entries are well formed
-/// for its boards. The answer is an error only for want of memory; a trace is held once.
+/// for its boards; where the trace was written, the values that they name are seen to have 32 bits. The answer is an error
+/// only for want of memory; a trace is held once.
 pub fn text(alloc: Global, report: &Report, flags: &Flags) -> Result<Vec<u8>, AllocError>
     requires head { IsHead report.now.head }
     requires entries { All (IsWellFormed report.now.head.boards) report.now.history }
-    ensures { IfOk result (λ text. text.items ≡ report_text report.now flags.now) }
+    ensures text { IfOk result (λ text. text.items ≡ report_text report.now flags.now) }
+    ensures words { flags.now.trace ≡ true → OnOk result (All HasWord report.now.history) }
 {
     let lines = lines_of(alloc, report, flags.counts)?;
     with_trace_if(
@@ -78,8 +80,9 @@ fn with_trace_if(
 ) -> Result<Vec<u8>, AllocError>
     requires head { IsHead head.now }
     requires entries { All (IsWellFormed head.now.boards) entries.now }
-    ensures { IfOk result (λ text. text.items
+    ensures text { IfOk result (λ text. text.items
         ≡ lines.items ++ part_if asked (trace_text head.now entries.now)) }
+    ensures words { asked ≡ true → OnOk result (All HasWord entries.now) }
 {
     if asked {
         with_trace(alloc, lines.as_slice(), head, entries)
@@ -97,7 +100,8 @@ fn with_trace(
 ) -> Result<Vec<u8>, AllocError>
     requires head { IsHead head.now }
     requires entries { All (IsWellFormed head.now.boards) entries.now }
-    ensures { IfOk result (λ text. text.items ≡ lines.now ++ trace_text head.now entries.now) }
+    ensures text { IfOk result (λ text. text.items ≡ lines.now ++ trace_text head.now entries.now) }
+    ensures words { OnOk result (All HasWord entries.now) }
 {
     let room = trace_room(entries)
         .and_then(|room| room.checked_add(lines.len()))

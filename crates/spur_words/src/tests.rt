@@ -1,0 +1,238 @@
+//! Rows of words, with what they ask for.
+
+use crate::{Order, Task, task_of};
+use spur_loader::Options;
+use spur_report::Flags;
+use std::alloc::{AllocError, Global};
+use std::test::Fail;
+
+/// A line's words.
+type Row = &'static [&'static str];
+
+/// The options where no word says more.
+const DEFAULT: Options = Options {
+    frames: 256,
+    lines: 4096,
+    budget: 100_000,
+    ahead: 0,
+};
+
+/// The task of these words, or the number of the first offending one.
+fn task_in(alloc: Global, row: &[&str]) -> Result<Result<Task, usize>, AllocError> {
+    let mut words = Vec::new(alloc);
+    for word in row {
+        words.push(String::from_str(alloc, word)?)?;
+    }
+    Ok(task_of(&words))
+}
+
+#[test]
+fn words_choose_the_order_and_the_options(rt: HostRuntime) -> Result<(), Fail> {
+    let schedule = |start| Order::Schedule { start };
+    let rows: [(Row, Order, (u32, u32, u32)); 9] = [
+        (&["run"], Order::Rounds, (256, 4096, 100_000)),
+        (&["sched", "0"], schedule(0), (256, 4096, 100_000)),
+        (
+            &["sched", "18446744073709551615"],
+            schedule(u64::MAX),
+            (256, 4096, 100_000),
+        ),
+        (
+            &["sched", "00000000000000000007", "--lines", "16"],
+            schedule(7),
+            (256, 16, 100_000),
+        ),
+        (
+            &[
+                "run", "--budget", "250000", "--frames", "3900", "--lines", "2048",
+            ],
+            Order::Rounds,
+            (3900, 2048, 250_000),
+        ),
+        (
+            &["run", "--frames", "1", "--budget", "00001"],
+            Order::Rounds,
+            (1, 4096, 1),
+        ),
+        (
+            &["run", "--lines", "4096"],
+            Order::Rounds,
+            (256, 4096, 100_000),
+        ),
+        (
+            &["sched", "1", "--frames", "2"],
+            schedule(1),
+            (2, 4096, 100_000),
+        ),
+        (
+            &["sched", "1", "--budget", "3"],
+            schedule(1),
+            (256, 4096, 3),
+        ),
+    ];
+    for (row, order, (frames, lines, budget)) in rows {
+        let task = Task::Run {
+            order,
+            options: Options {
+                frames,
+                lines,
+                budget,
+                ahead: 0,
+            },
+            flags: Flags {
+                counts: false,
+                trace: false,
+            },
+        };
+        assert_eq!(rt; task_in(rt.alloc(), row)?, Ok(task), "{row:?}");
+    }
+    Ok(())
+}
+
+#[test]
+fn words_choose_what_a_report_has(rt: HostRuntime) -> Result<(), Fail> {
+    let two = Options {
+        frames: 2,
+        ..DEFAULT
+    };
+    let rows: [(Row, Order, Options, (bool, bool)); 7] = [
+        (&["run", "--counts"], Order::Rounds, DEFAULT, (true, false)),
+        (&["run", "--trace"], Order::Rounds, DEFAULT, (false, true)),
+        (
+            &["run", "--counts", "--trace"],
+            Order::Rounds,
+            DEFAULT,
+            (true, true),
+        ),
+        (
+            &["run", "--trace", "--frames", "2"],
+            Order::Rounds,
+            two,
+            (false, true),
+        ),
+        (
+            &["run", "--frames", "2", "--counts"],
+            Order::Rounds,
+            two,
+            (true, false),
+        ),
+        (
+            &["sched", "7", "--counts"],
+            Order::Schedule { start: 7 },
+            DEFAULT,
+            (true, false),
+        ),
+        (
+            &["sched", "7", "--trace", "--frames", "2", "--counts"],
+            Order::Schedule { start: 7 },
+            two,
+            (true, true),
+        ),
+    ];
+    for (row, order, options, (counts, trace)) in rows {
+        let task = Task::Run {
+            order,
+            options,
+            flags: Flags { counts, trace },
+        };
+        assert_eq!(rt; task_in(rt.alloc(), row)?, Ok(task), "{row:?}");
+    }
+    Ok(())
+}
+
+#[test]
+fn words_choose_what_runs_nothing(rt: HostRuntime) -> Result<(), Fail> {
+    let text_of = |number, boards, pages| Task::Gen {
+        number,
+        boards,
+        pages,
+    };
+    let rows: [(Row, Task); 8] = [
+        (&["check"], Task::Check { budget: 100_000 }),
+        (&["check", "--budget", "1"], Task::Check { budget: 1 }),
+        (
+            &["check", "--budget", "250000"],
+            Task::Check { budget: 250_000 },
+        ),
+        (&["asm"], Task::Asm),
+        (&["gen", "7", "4", "64"], text_of(7, 4, 64)),
+        (&["gen", "0", "1", "1"], text_of(0, 1, 1)),
+        (
+            &["gen", "4294967295", "12", "512"],
+            text_of(4_294_967_295, 12, 512),
+        ),
+        (&["gen", "007", "02", "0003"], text_of(7, 2, 3)),
+    ];
+    for (row, task) in rows {
+        assert_eq!(rt; task_in(rt.alloc(), row)?, Ok(task), "{row:?}");
+    }
+    Ok(())
+}
+
+#[test]
+fn the_first_offending_word_of_a_run_is_told(rt: HostRuntime) -> Result<(), Fail> {
+    let rows: [(Row, usize); 27] = [
+        (&[], 1),
+        (&["Run"], 1),
+        (&["--budget", "5"], 1),
+        (&["run", "more"], 2),
+        (&["run", "1"], 2),
+        (&["run", "--ahead", "0"], 2),
+        (&["run", "--watch", "40"], 2),
+        (&["sched"], 2),
+        (&["sched", "--lines", "16"], 2),
+        (&["sched", "18446744073709551616"], 2),
+        (&["sched", "000000000000000000001"], 2),
+        (&["sched", "-1"], 2),
+        (&["sched", ""], 2),
+        (&["sched", "1", "2"], 3),
+        (&["sched", "1", "--late"], 3),
+        (&["sched", "1", "--watch", "40"], 3),
+        (&["run", "--frames"], 3),
+        (&["run", "--frames", "0"], 3),
+        (&["run", "--frames", "3901"], 3),
+        (&["run", "--lines", "24"], 3),
+        (&["run", "--lines", "8"], 3),
+        (&["sched", "1", "--lines", "8192"], 4),
+        (&["run", "--budget", "250001"], 3),
+        (&["run", "--counts", "--counts"], 3),
+        (&["run", "--trace", "--counts", "--trace"], 4),
+        (&["run", "--trace", "1"], 3),
+        (
+            &["run", "--budget", "5", "--frames", "1", "--budget", "5"],
+            6,
+        ),
+    ];
+    for (row, number) in rows {
+        assert_eq!(rt; task_in(rt.alloc(), row)?, Err(number), "{row:?}");
+    }
+    Ok(())
+}
+
+#[test]
+fn the_first_offending_word_of_what_runs_nothing_is_told(rt: HostRuntime) -> Result<(), Fail> {
+    let rows: [(Row, usize); 18] = [
+        (&["gen"], 2),
+        (&["gen", "1"], 3),
+        (&["gen", "1", "2"], 4),
+        (&["gen", "4294967296", "1", "1"], 2),
+        (&["gen", "0", "0", "1"], 3),
+        (&["gen", "7", "13", "64"], 3),
+        (&["gen", "0", "1", "0"], 4),
+        (&["gen", "0", "1", "513"], 4),
+        (&["gen", "0", "1", "1", "--trace"], 5),
+        (&["asm", "more"], 2),
+        (&["asm", "--counts"], 2),
+        (&["check", "--frames", "1"], 2),
+        (&["check", "--counts"], 2),
+        (&["check", "5"], 2),
+        (&["check", "--budget"], 3),
+        (&["check", "--budget", "0"], 3),
+        (&["check", "--budget", "250001"], 3),
+        (&["check", "--budget", "5", "--budget", "5"], 4),
+    ];
+    for (row, number) in rows {
+        assert_eq!(rt; task_in(rt.alloc(), row)?, Err(number), "{row:?}");
+    }
+    Ok(())
+}
