@@ -1,177 +1,197 @@
 -- The causes of the top call's answers, from the way in which it ended.
-use Rattle.std.proofs.Common.{◌≡◌, ◌≢◌, ℕ, ◌<◌, inl, inr, Bool, true, false, List, [], ◌++◌, Option, Some, None, Result, Ok, Err, refl, sym, ap, ◌∙◌, subst, append-nil, if◌then◌else◌}
-use Rattle.std.specs.Prelude.{IsSome, IsSomeAnd}
+use Rattle.std.proofs.Common.{◌≡◌, ◌≢◌, ℕ, Bool, true, false, List, [], Option, Some, None, Result, Ok, Err, refl, sym, ◌∙◌, subst, if◌then◌else◌}
+use Rattle.std.specs.Prelude.{IfSome, IsSome, IsSomeAnd}
 use Rattle.std.specs.List.{list_all}
-use Rattle.spur_io.specs.Told.{Loses, IsAtEnd, Gains}
+use Rattle.spur_io.specs.Told.{Gains}
 use Rattle.spur_swap.specs.Meaning.{Swap}
-use Rattle.std.specs.Option.{option_map}
-use Rattle.spur_object.specs.declared.unit.Unit.{Unit as Program}
-use Rattle.spur_program.specs.declared.refusal.Refusal.{Refusal}
-use Rattle.spur_program.specs.declared.refusal.Refusal.TheVariants.{Load}
-use Rattle.spur_program.specs.declared.report.Report.{Report}
+use Rattle.spur_report.specs.declared.report.Report.{Report}
+use Rattle.spur_check.specs.declared.verdict.Verdict.{Verdict}
+use Rattle.spur_words.specs.declared.task.Task.{Task}
+use Rattle.spur_words.specs.declared.task.Task.TheVariants.{Run, Check, Asm, Gen}
+use Rattle.spur_words.specs.Words.{task_of}
 use Rattle.spur_program.specs.declared.report.Outcome.{Outcome}
 use Rattle.spur_program.specs.declared.report.Status.{Status}
 use Rattle.spur_program.specs.declared.report.Status.TheVariants as status
-use Rattle.spur_program.specs.declared.words.Task.{Task}
-use Rattle.spur_program.specs.Words.{task_of}
-use Rattle.spur_program.specs.Texts.{refusal_line, report_text, words_line}
-use Rattle.spur_program.specs.Accepted.{IsAccepted, IsRead, IsWhole, Whole as All, Front as More, IsLeft, input_refusal}
-use Rattle.spur_program.proofs.InputFacts.{unit_said}
-use Rattle.spur_program.specs.Answer.{has_halted, status_of, IsWritten, Whole, Front, Nothing, Way, BadWords, NotRead, Refused, Wanting, NotBegun, NotRun, Ran, AnswersRefusal, AnswersWords, HasSwapFault, IsInputRefused, ReportsHalted, WholeOrWanting}
+use Rattle.spur_program.specs.Texts.{words_line}
+use Rattle.spur_program.specs.Accepted.{IsRead, limit_of, reads_input}
+use Rattle.spur_program.specs.Answer.{has_halted, verdict_status, IsAnswer, IsInputAnswer, IsWritten, Whole, Front, Nothing, Answered, NotRead, Wanting, NotBegun, NotRun, Ran, Way}
+use Rattle.spur_program.specs.Answer.{Assembles, Generates, Judges, Refuses, ToInput, ToWords, AnswersWords, GivesVerdict, HandsBack, HasReadFault, HasSwapFault, WasDone, EndedOtherwise, IsHeadline, IsInputRefused, IsSaid, MayGive, ReportsHalted}
+use Rattle.spur_program.proofs.WrittenFacts.{IsAnswerStatus, IsEndStatus, answers, never, none_put, put_as, run_ended, run_ends, run_fine, verdict_ends}
 
--- ---- the status of a run
+-- a report or a verdict may be given with a status that was wanted for it, with a write fault, and with want of memory
+end_gives : (s : Status) → IsEndStatus s → MayGive s
+end_gives status.Fine is = tt
+end_gives status.Ended is = tt
+end_gives status.Words is = absurd is
+end_gives status.Input is = absurd is
+end_gives status.ReadFault is = absurd is
+end_gives status.WriteFault is = tt
+end_gives status.SwapAtStart is = absurd is
+end_gives status.NoMemory is = tt
 
-run_fine : (all : Bool) → (if all then status.Fine else status.Ended) ≡ status.Fine → all ≡ true
-run_fine true is = refl
-run_fine false is = absurd cc
+written_gives : (text : List ℕ) (wanted got : Status) (written now : Option (List ℕ)) → IsEndStatus wanted → IsWritten text wanted got written now → MayGive got
+written_gives text wanted got written now ends (Whole is put) = subst MayGive (sym is) (end_gives wanted ends)
+written_gives text wanted got written now ends (Front is put) = subst MayGive (sym is) tt
+written_gives text wanted got written now ends (Nothing is put) = subst MayGive (sym is) tt
 
-run_ended : (all : Bool) → (if all then status.Fine else status.Ended) ≡ status.Ended → all ≡ false
-run_ended true is = absurd cc
-run_ended false is = refl
+end_no_words : (s : Status) → IsEndStatus s → s ≢ status.Words
+end_no_words status.Words is same = is
+end_no_words status.Fine is same = absurd cc
+end_no_words status.Ended is same = absurd cc
+end_no_words status.Input is same = is
+end_no_words status.ReadFault is same = is
+end_no_words status.WriteFault is same = is
+end_no_words status.SwapAtStart is same = is
+end_no_words status.NoMemory is same = is
 
-run_no_input : (all : Bool) → (if all then status.Fine else status.Ended) ≢ status.Input
-run_no_input true is = cc
-run_no_input false is = cc
-
-run_no_words : (all : Bool) → (if all then status.Fine else status.Ended) ≢ status.Words
-run_no_words true is = cc
-run_no_words false is = cc
-
-run_no_swap : (all : Bool) → (if all then status.Fine else status.Ended) ≢ status.SwapAtStart
-run_no_swap true is = cc
-run_no_swap false is = cc
-
--- ---- texts that were put
-
--- a text whose status is none of a write fault and of want of memory was put whole, and its status is the wanted one
-module _ (text : List ℕ) (wanted got : Status) (written now : Option (List ℕ)) where
-  pub whole_put : IsWritten text wanted got written now → got ≢ status.WriteFault → got ≢ status.NoMemory → (got ≡ wanted) × Gains written now text
-  whole_put (Whole is put) no_fault memory = (is, put)
-  whole_put (Front is put) no_fault memory = absurd (no_fault is)
-  whole_put (Nothing is put) no_fault memory = absurd (memory is)
-
--- a text was put whole with this status, which neither a write fault nor want of memory is
-put_as : (text : List ℕ) (wanted got other : Status) (written now : Option (List ℕ)) → other ≢ status.WriteFault → other ≢ status.NoMemory
-    → IsWritten text wanted got written now → got ≡ other → (wanted ≡ other) × Gains written now text
-put_as text wanted got other written now no_fault memory put is =
-    let whole = whole_put text wanted got written now put (λ e. no_fault (sym is ∙ e)) (λ e. memory (sym is ∙ e)) in
-    (sym whole.0 ∙ is, whole.1)
-
--- the only status of want of memory puts nothing
-none_put : (text : List ℕ) (wanted got : Status) (written now : Option (List ℕ)) → wanted ≢ status.NoMemory → IsWritten text wanted got written now → got ≡ status.NoMemory → Gains written now []
-none_put text wanted got written now other (Whole is put) memory = absurd (other (sym is ∙ memory))
-none_put text wanted got written now other (Front is put) memory = absurd (let e : status.WriteFault ≡ status.NoMemory = sym is ∙ memory in cc)
-none_put text wanted got written now other (Nothing is put) memory = put
-
-run_no_memory : (all : Bool) → (if all then status.Fine else status.Ended) ≢ status.NoMemory
-run_no_memory true is = cc
-run_no_memory false is = cc
-
--- ---- what a source that tells was read of
-
--- what a source that tells gave whole is what it had left
-same_text : (old new : Option (List ℕ)) (text other : List ℕ) → old ≡ Some text → Loses old new other → IsAtEnd new → other ≡ text
-same_text None new text other told loses end = absurd cc
-same_text (Some old) None text other told loses end = absurd loses
-same_text (Some old) (Some new) text other told loses end =
-    let is : old ≡ text = cc in
-    sym (append-nil other) ∙ sym (ap (λ (rest : List ℕ). other ++ rest) end) ∙ sym loses ∙ is
-
-left_text : (old : Option (List ℕ)) (text other : List ℕ) → old ≡ Some text → IsLeft old other → other ≡ text
-left_text None text other told left = absurd cc
-left_text (Some old) text other told left = (let is : old ≡ text = cc in sym left ∙ is)
-
--- the text that was read of a source that tells is what it had left
-read_text : (old new : Option (List ℕ)) (text other : List ℕ) → old ≡ Some text → IsRead old new other → other ≡ text
-read_text old new text other told (All within whole) = same_text old new text other told whole.given whole.end
-read_text old new text other told (More long left lost) = left_text old text other told left
-
--- ---- the causes
+end_no_input : (s : Status) → IsEndStatus s → s ≢ status.Input
+end_no_input status.Words is same = is
+end_no_input status.Fine is same = absurd cc
+end_no_input status.Ended is same = absurd cc
+end_no_input status.Input is same = is
+end_no_input status.ReadFault is same = is
+end_no_input status.WriteFault is same = is
+end_no_input status.SwapAtStart is same = is
+end_no_input status.NoMemory is same = is
 
 module _ {B : Type 0} (tells : B → Swap) (words : List (List ℕ)) (left left_now written written_now : Option (List ℕ)) (backing : B) (outcome : Outcome B) where
   abbrev IsWay : Type 0
   IsWay = Way tells words left left_now written written_now backing outcome
 
+  abbrev Runs : Report → Type 0
+  Runs report = IsHeadline words left left_now written written_now (tells backing) (tells outcome.backing) outcome.status report
+
   reports : (all : Bool) (report : Report) → outcome.report ≡ Some report → list_all has_halted report.boards ≡ all → ReportsHalted all outcome
   reports all report given is = subst (λ (o : Option Report). IsSomeAnd o (λ r. list_all has_halted r.boards ≡ all)) (sym given) is
 
-  pub fine_reports : IsWay → outcome.status ≡ status.Fine → ReportsHalted true outcome
-  fine_reports (BadWords number bad taken none same put) is = absurd (let e = (put_as _ _ _ status.Fine _ _ (λ x. cc) (λ x. cc) put is).0 in cc)
-  fine_reports (NotRead task command taken none same failed put) is = absurd cc
-  fine_reports (Refused task command text read refusal why none same put) is = absurd (let e = (put_as _ _ _ status.Fine _ _ (λ x. cc) (λ x. cc) put is).0 in cc)
-  fine_reports (Wanting task command taken none same wanting put) is = absurd cc
-  fine_reports (NotBegun task unit text whole accepted none failed at put) is = absurd cc
-  fine_reports (NotRun task unit text whole accepted none wanting put) is = absurd cc
-  fine_reports (Ran report given holds) is =
-      reports true report given (run_fine _ (put_as _ _ _ status.Fine _ _ (λ x. cc) (λ x. cc) holds.text_written is).0)
+  gives : (s : Status) (verdict : Verdict) → outcome.verdict ≡ Some verdict → verdict_status verdict ≡ s → GivesVerdict s outcome
+  gives s verdict given is = subst (λ (o : Option Verdict). IsSomeAnd o (λ v. verdict_status v ≡ s)) (sym given) is
 
-  pub ended_reports : IsWay → outcome.status ≡ status.Ended → ReportsHalted false outcome
-  ended_reports (BadWords number bad taken none same put) is = absurd (let e = (put_as _ _ _ status.Ended _ _ (λ x. cc) (λ x. cc) put is).0 in cc)
-  ended_reports (NotRead task command taken none same failed put) is = absurd cc
-  ended_reports (Refused task command text read refusal why none same put) is = absurd (let e = (put_as _ _ _ status.Ended _ _ (λ x. cc) (λ x. cc) put is).0 in cc)
-  ended_reports (Wanting task command taken none same wanting put) is = absurd cc
-  ended_reports (NotBegun task unit text whole accepted none failed at put) is = absurd cc
-  ended_reports (NotRun task unit text whole accepted none wanting put) is = absurd cc
-  ended_reports (Ran report given holds) is =
-      reports false report given (run_ended _ (put_as _ _ _ status.Ended _ _ (λ x. cc) (λ x. cc) holds.text_written is).0)
+  -- the words ask for one task
+  one_task : (task other : Task) → task_of words ≡ Ok task → task_of words ≡ Ok other → other ≡ task
+  one_task task other command chosen = cc
+
+  -- ---- done, or come to another end
+
+  abbrev Done : Task → Type 0
+  Done task = WasDone written written_now task outcome
+
+  input_done : (task : Task) (input text : List ℕ) (wanted : Status) (verdict : Option Verdict) → IsInputAnswer task input text wanted verdict → wanted ≡ status.Fine
+      → Gains written written_now text → outcome.verdict ≡ verdict → Done task
+  input_done task input text wanted verdict (Refuses refusal why) is put given = absurd cc
+  input_done task input text wanted verdict (Assembles asm unit said) is put given = subst Done (sym asm) record { text = input; unit = unit; assembled = said; put = put }
+  input_done task input text wanted verdict (Judges budget check v on) is put given = subst Done (sym check) (gives status.Fine v given is)
+
+  answer_done : (task : Task) (text : List ℕ) (wanted : Status) (verdict : Option Verdict) → IsAnswer words left left_now text wanted verdict → wanted ≡ status.Fine
+      → Gains written written_now text → outcome.verdict ≡ verdict → task_of words ≡ Ok task → Done task
+  answer_done task text wanted verdict (ToWords number bad taken) is put given command = absurd cc
+  answer_done task text wanted verdict (Generates number boards pages chosen taken) is put given command = subst Done (one_task task (Gen number boards pages) command chosen) put
+  answer_done task text wanted verdict (ToInput other chosen input read text1 wanted1 verdict1 answer) is put given command =
+      subst Done (one_task task other command chosen) (input_done other input text wanted verdict answer is put given)
+
+  pub done : IsWay → outcome.status ≡ status.Fine → (task : Task) → task_of words ≡ Ok task → Done task
+  done (Answered text wanted verdict answer said) is task command =
+      let whole = put_as text wanted outcome.status status.Fine written written_now (λ x. cc) (λ x. cc) said.put is in
+      answer_done task text wanted verdict answer whole.0 whole.1 said.given command
+  done (NotRead other chosen reads_it taken silent) is task command = absurd (let e : status.ReadFault ≡ status.Fine = sym silent.is ∙ is in cc)
+  done (Wanting other chosen reads_it taken silent) is task command = absurd (let e : status.NoMemory ≡ status.Fine = sym silent.is ∙ is in cc)
+  done (NotBegun order options flags unit input whole accepted failed broken) is task command = absurd (let e : status.SwapAtStart ≡ status.Fine = sym broken.is ∙ is in cc)
+  done (NotRun order options flags unit input whole accepted broken) is task command = absurd (let e : status.NoMemory ≡ status.Fine = sym broken.is ∙ is in cc)
+  done (Ran report given none holds) is task command =
+      subst Done (one_task task (Run holds.order holds.options holds.flags) command holds.accepted.command)
+      (reports true report given (run_fine _ (put_as _ _ _ status.Fine _ _ (λ x. cc) (λ x. cc) holds.text_written is).0))
+
+  input_ended : (task : Task) (input text : List ℕ) (wanted : Status) (verdict : Option Verdict) → IsInputAnswer task input text wanted verdict → wanted ≡ status.Ended
+      → outcome.verdict ≡ verdict → EndedOtherwise task outcome
+  input_ended task input text wanted verdict (Refuses refusal why) is given = absurd cc
+  input_ended task input text wanted verdict (Assembles asm unit said) is given = absurd cc
+  input_ended task input text wanted verdict (Judges budget check v on) is given = subst (λ (t : Task). EndedOtherwise t outcome) (sym check) (gives status.Ended v given is)
+
+  answer_ended : (task : Task) (text : List ℕ) (wanted : Status) (verdict : Option Verdict) → IsAnswer words left left_now text wanted verdict → wanted ≡ status.Ended
+      → outcome.verdict ≡ verdict → task_of words ≡ Ok task → EndedOtherwise task outcome
+  answer_ended task text wanted verdict (ToWords number bad taken) is given command = absurd cc
+  answer_ended task text wanted verdict (Generates number boards pages chosen taken) is given command = absurd cc
+  answer_ended task text wanted verdict (ToInput other chosen input read text1 wanted1 verdict1 answer) is given command =
+      subst (λ (t : Task). EndedOtherwise t outcome) (one_task task other command chosen) (input_ended other input text wanted verdict answer is given)
+
+  pub ended : IsWay → outcome.status ≡ status.Ended → (task : Task) → task_of words ≡ Ok task → EndedOtherwise task outcome
+  ended (Answered text wanted verdict answer said) is task command =
+      answer_ended task text wanted verdict answer (put_as _ _ _ status.Ended _ _ (λ x. cc) (λ x. cc) said.put is).0 said.given command
+  ended (NotRead other chosen reads_it taken silent) is task command = absurd (let e : status.ReadFault ≡ status.Ended = sym silent.is ∙ is in cc)
+  ended (Wanting other chosen reads_it taken silent) is task command = absurd (let e : status.NoMemory ≡ status.Ended = sym silent.is ∙ is in cc)
+  ended (NotBegun order options flags unit input whole accepted failed broken) is task command = absurd (let e : status.SwapAtStart ≡ status.Ended = sym broken.is ∙ is in cc)
+  ended (NotRun order options flags unit input whole accepted broken) is task command = absurd (let e : status.NoMemory ≡ status.Ended = sym broken.is ∙ is in cc)
+  ended (Ran report given none holds) is task command =
+      subst (λ (t : Task). EndedOtherwise t outcome) (one_task task (Run holds.order holds.options holds.flags) command holds.accepted.command)
+      (reports false report given (run_ended _ (put_as _ _ _ status.Ended _ _ (λ x. cc) (λ x. cc) holds.text_written is).0))
+
+  -- ---- refusals
+
+  refused_by : (task : Task) → task_of words ≡ Ok task → (input text : List ℕ) (wanted : Status) (verdict : Option Verdict) → IsRead (limit_of task) left left_now input
+      → IsInputAnswer task input text wanted verdict → wanted ≡ status.Input → Gains written written_now text → IsInputRefused words left left_now written written_now
+  refused_by task command input text wanted verdict read (Refuses refusal why) is put =
+      record { task = task; command = command; input = input; read = read; refusal = refusal; why = why; line = put }
+  refused_by task command input text wanted verdict read (Assembles asm unit said) is put = absurd cc
+  refused_by task command input text wanted verdict read (Judges budget check v on) is put = absurd (end_no_input (verdict_status v) (verdict_ends v) is)
+
+  answer_refused : (text : List ℕ) (wanted : Status) (verdict : Option Verdict) → IsAnswer words left left_now text wanted verdict → wanted ≡ status.Input → Gains written written_now text
+      → IsInputRefused words left left_now written written_now
+  answer_refused text wanted verdict (ToWords number bad taken) is put = absurd cc
+  answer_refused text wanted verdict (Generates number boards pages chosen taken) is put = absurd cc
+  answer_refused text wanted verdict (ToInput task chosen input read text1 wanted1 verdict1 answer) is put = refused_by task chosen input text wanted verdict read answer is put
 
   pub input_refused : IsWay → outcome.status ≡ status.Input → IsInputRefused words left left_now written written_now
-  input_refused (BadWords number bad taken none same put) is = absurd (let e = (put_as _ _ _ status.Input _ _ (λ x. cc) (λ x. cc) put is).0 in cc)
-  input_refused (NotRead task command taken none same failed put) is = absurd cc
-  input_refused (Refused task command text read refusal why none same put) is =
-      record { task = task; command = command; text = text; read = read; refusal = refusal; why = why; line = (put_as _ _ _ status.Input _ _ (λ x. cc) (λ x. cc) put is).1 }
-  input_refused (Wanting task command taken none same wanting put) is = absurd cc
-  input_refused (NotBegun task unit text whole accepted none failed at put) is = absurd cc
-  input_refused (NotRun task unit text whole accepted none wanting put) is = absurd cc
-  input_refused (Ran report given holds) is = absurd (run_no_input _ (put_as _ _ _ status.Input _ _ (λ x. cc) (λ x. cc) holds.text_written is).0)
+  input_refused (Answered text wanted verdict answer said) is =
+      let whole = put_as text wanted outcome.status status.Input written written_now (λ x. cc) (λ x. cc) said.put is in
+      answer_refused text wanted verdict answer whole.0 whole.1
+  input_refused (NotRead other chosen reads_it taken silent) is = absurd (let e : status.ReadFault ≡ status.Input = sym silent.is ∙ is in cc)
+  input_refused (Wanting other chosen reads_it taken silent) is = absurd (let e : status.NoMemory ≡ status.Input = sym silent.is ∙ is in cc)
+  input_refused (NotBegun order options flags unit input whole accepted failed broken) is = absurd (let e : status.SwapAtStart ≡ status.Input = sym broken.is ∙ is in cc)
+  input_refused (NotRun order options flags unit input whole accepted broken) is = absurd (let e : status.NoMemory ≡ status.Input = sym broken.is ∙ is in cc)
+  input_refused (Ran report given none holds) is = absurd (end_no_input _ (run_ends _) (put_as _ _ _ status.Input _ _ (λ x. cc) (λ x. cc) holds.text_written is).0)
 
-  pub swap_failed : IsWay → outcome.status ≡ status.SwapAtStart → HasSwapFault tells words left left_now written written_now backing outcome
-  swap_failed (BadWords number bad taken none same put) is = absurd (let e = (put_as _ _ _ status.SwapAtStart _ _ (λ x. cc) (λ x. cc) put is).0 in cc)
-  swap_failed (NotRead task command taken none same failed put) is = absurd cc
-  swap_failed (Refused task command text read refusal why none same put) is = absurd (let e = (put_as _ _ _ status.SwapAtStart _ _ (λ x. cc) (λ x. cc) put is).0 in cc)
-  swap_failed (Wanting task command taken none same wanting put) is = absurd cc
-  swap_failed (NotBegun task unit text whole accepted none failed at put) is =
-      record { task = task; unit = unit; text = text; whole = whole; accepted = accepted; failed = failed; none = none; put = put }
-  swap_failed (NotRun task unit text whole accepted none wanting put) is = absurd cc
-  swap_failed (Ran report given holds) is = absurd (run_no_swap _ (put_as _ _ _ status.SwapAtStart _ _ (λ x. cc) (λ x. cc) holds.text_written is).0)
+  -- an input that was read was answered, and no word was refused
+  input_no_words : (task : Task) (input text : List ℕ) (wanted : Status) (verdict : Option Verdict) → IsInputAnswer task input text wanted verdict → wanted ≢ status.Words
+  input_no_words task input text wanted verdict (Refuses refusal why) is = cc
+  input_no_words task input text wanted verdict (Assembles asm unit said) is = cc
+  input_no_words task input text wanted verdict (Judges budget check v on) is = end_no_words (verdict_status v) (verdict_ends v) is
 
-  pub nothing_put : IsWay → outcome.status ≡ status.NoMemory → Gains written written_now []
-  nothing_put (BadWords number bad taken none same put) is = none_put _ _ _ _ _ (λ x. cc) put is
-  nothing_put (NotRead task command taken none same failed put) is = put
-  nothing_put (Refused task command text read refusal why none same put) is = none_put _ _ _ _ _ (λ x. cc) put is
-  nothing_put (Wanting task command taken none same wanting put) is = put
-  nothing_put (NotBegun task unit text whole accepted none failed at put) is = put
-  nothing_put (NotRun task unit text whole accepted none wanting put) is = put
-  nothing_put (Ran report given holds) is = none_put _ _ _ _ _ (run_no_memory _) holds.text_written is
-
-  pub swap_stays : IsWay → outcome.report ≡ None → outcome.status ≢ status.SwapAtStart → outcome.status ≢ status.NoMemory → outcome.backing ≡ backing
-  swap_stays (BadWords number bad taken none same put) no_report begun memory = same
-  swap_stays (NotRead task command taken none same failed put) no_report begun memory = same
-  swap_stays (Refused task command text read refusal why none same put) no_report begun memory = same
-  swap_stays (Wanting task command taken none same wanting put) no_report begun memory = same
-  swap_stays (NotBegun task unit text whole accepted none failed at put) no_report begun memory = absurd (begun at)
-  swap_stays (NotRun task unit text whole accepted none wanting put) no_report begun memory = absurd (memory wanting)
-  swap_stays (Ran report given holds) no_report begun memory = absurd (let e : Some report ≡ None = sym given ∙ no_report in cc)
+  answer_no_words : (task : Task) → task_of words ≡ Ok task → (text : List ℕ) (wanted : Status) (verdict : Option Verdict) → IsAnswer words left left_now text wanted verdict → wanted ≢ status.Words
+  answer_no_words task command text wanted verdict (ToWords number bad taken) is = (let e : Ok task ≡ Err number = sym command ∙ bad in cc)
+  answer_no_words task command text wanted verdict (Generates number boards pages chosen taken) is = cc
+  answer_no_words task command text wanted verdict (ToInput other chosen input read text1 wanted1 verdict1 answer) is = input_no_words other input text wanted verdict answer is
 
   not_words : IsWay → (task : Task) → task_of words ≡ Ok task → outcome.status ≢ status.Words
-  not_words (BadWords number bad taken none same put) chosen fine is = absurd cc
-  not_words (NotRead task command taken none same failed put) chosen fine is = absurd cc
-  not_words (Refused task command text read refusal why none same put) chosen fine is = absurd (let e = (put_as _ _ _ status.Words _ _ (λ x. cc) (λ x. cc) put is).0 in cc)
-  not_words (Wanting task command taken none same wanting put) chosen fine is = absurd cc
-  not_words (NotBegun task unit text whole accepted none failed at put) chosen fine is = absurd cc
-  not_words (NotRun task unit text whole accepted none wanting put) chosen fine is = absurd cc
-  not_words (Ran report given holds) chosen fine is = run_no_words _ (put_as _ _ _ status.Words _ _ (λ x. cc) (λ x. cc) holds.text_written is).0
+  not_words (Answered text wanted verdict answer said) task command is =
+      answer_no_words task command text wanted verdict answer (put_as _ _ _ status.Words _ _ (λ x. cc) (λ x. cc) said.put is).0
+  not_words (NotRead other chosen reads_it taken silent) task command is = (let e : status.ReadFault ≡ status.Words = sym silent.is ∙ is in cc)
+  not_words (Wanting other chosen reads_it taken silent) task command is = (let e : status.NoMemory ≡ status.Words = sym silent.is ∙ is in cc)
+  not_words (NotBegun order options flags unit input whole accepted failed broken) task command is = (let e : status.SwapAtStart ≡ status.Words = sym broken.is ∙ is in cc)
+  not_words (NotRun order options flags unit input whole accepted broken) task command is = (let e : status.NoMemory ≡ status.Words = sym broken.is ∙ is in cc)
+  not_words (Ran report given none holds) task command is = end_no_words _ (run_ends _) (put_as _ _ _ status.Words _ _ (λ x. cc) (λ x. cc) holds.text_written is).0
 
-  words_refused : (number : ℕ) → task_of words ≡ Err number → IsWay → (outcome.report ≡ None) × IsWritten (words_line number) status.Words outcome.status written written_now
-  words_refused number is (BadWords other bad taken none same put) =
+  abbrev RefusesWord : ℕ → Type 0
+  RefusesWord number = (outcome.report ≡ None) × (outcome.verdict ≡ None) × IsWritten (words_line number) status.Words outcome.status written written_now
+
+  -- words that are refused ask for no task
+  no_task : (number : ℕ) (task : Task) → task_of words ≡ Err number → task_of words ≡ Ok task → ⊥
+  no_task number task bad command = (let e : Ok task ≡ Err number = sym command ∙ bad in cc)
+
+  answer_words : (number : ℕ) → task_of words ≡ Err number → (text : List ℕ) (wanted : Status) (verdict : Option Verdict) → IsAnswer words left left_now text wanted verdict
+      → IsSaid text wanted verdict written written_now backing outcome → RefusesWord number
+  answer_words number is text wanted verdict (ToWords other bad taken) said =
       let one : other ≡ number = cc in
-      (none, subst (λ (n : ℕ). IsWritten (words_line n) status.Words outcome.status written written_now) one put)
-  words_refused number is (NotRead task command taken none same failed put) = absurd cc
-  words_refused number is (Refused task command text read refusal why none same put) = absurd cc
-  words_refused number is (Wanting task command taken none same wanting put) = absurd cc
-  words_refused number is (NotBegun task unit text whole accepted none failed at put) = absurd (let command = accepted.command in cc)
-  words_refused number is (NotRun task unit text whole accepted none wanting put) = absurd (let command = accepted.command in cc)
-  words_refused number is (Ran report given holds) = absurd (let command = holds.accepted.command in cc)
+      (said.report, said.given, subst (λ (n : ℕ). IsWritten (words_line n) status.Words outcome.status written written_now) one said.put)
+  answer_words number is text wanted verdict (Generates n boards pages chosen taken) said = absurd (no_task number (Gen n boards pages) is chosen)
+  answer_words number is text wanted verdict (ToInput task chosen input read text1 wanted1 verdict1 answer) said = absurd (no_task number task is chosen)
+
+  words_refused : (number : ℕ) → task_of words ≡ Err number → IsWay → RefusesWord number
+  words_refused number is (Answered text wanted verdict answer said) = answer_words number is text wanted verdict answer said
+  words_refused number is (NotRead task chosen reads_it taken silent) = absurd (no_task number task is chosen)
+  words_refused number is (Wanting task chosen reads_it taken silent) = absurd (no_task number task is chosen)
+  words_refused number is (NotBegun order options flags unit input whole accepted failed broken) = absurd (no_task number (Run order options flags) is accepted.command)
+  words_refused number is (NotRun order options flags unit input whole accepted broken) = absurd (no_task number (Run order options flags) is accepted.command)
+  words_refused number is (Ran report given none holds) = absurd (no_task number (Run holds.order holds.options holds.flags) is holds.accepted.command)
 
   words_by : (read : Result Task ℕ) → task_of words ≡ read → IsWay → AnswersWords read written written_now outcome
   words_by (Ok task) is way = not_words way task is
@@ -180,81 +200,106 @@ module _ {B : Type 0} (tells : B → Swap) (words : List (List ℕ)) (left left_
   pub answers_words : IsWay → AnswersWords (task_of words) written written_now outcome
   answers_words way = words_by (task_of words) refl way
 
-  -- ---- a told input that is refused
+  -- ---- faults, and want of memory
 
-  -- an accepted text that was read whole is not the told one
-  not_accepted : (text other : List ℕ) (chosen task : Task) (unit : Program) (refusal : Refusal) → task_of words ≡ Ok chosen → left ≡ Some text
-      → IsWhole left left_now other → IsAccepted words other task unit → input_refusal chosen.options text ≡ Some refusal → ⊥
-  not_accepted text other chosen task unit refusal fine told whole accepted why =
-      let one : task ≡ chosen = (let command = accepted.command in cc) in
-      let same : other ≡ text = same_text left left_now text other told whole.given whole.end in
-      let none : input_refusal task.options other ≡ None = unit_said task.options other unit accepted.within accepted.of_text.says ∙ ap (option_map Load) accepted.of_text.loads in
-      let e : Some refusal ≡ None = sym why ∙ sym (ap (input_refusal chosen.options) same) ∙ sym (ap (λ (t : Task). input_refusal t.options other) one) ∙ none in
-      cc
+  pub read_failed : IsWay → outcome.status ≡ status.ReadFault → HasReadFault words written written_now outcome
+  read_failed (Answered text wanted verdict answer said) is = absurd (never _ _ _ status.ReadFault _ _ (answers _ _ _ _ _ _ answer) (λ x. x) (λ x. cc) (λ x. cc) said.put is)
+  read_failed (NotRead task chosen reads_it taken silent) is =
+      record { task = task; command = chosen; reads_it = reads_it; report = silent.report; verdict = silent.verdict; put = silent.put }
+  read_failed (Wanting other chosen reads_it taken silent) is = absurd (let e : status.NoMemory ≡ status.ReadFault = sym silent.is ∙ is in cc)
+  read_failed (NotBegun order options flags unit input whole accepted failed broken) is = absurd (let e : status.SwapAtStart ≡ status.ReadFault = sym broken.is ∙ is in cc)
+  read_failed (NotRun order options flags unit input whole accepted broken) is = absurd (let e : status.NoMemory ≡ status.ReadFault = sym broken.is ∙ is in cc)
+  read_failed (Ran report given none holds) is = absurd (let e = subst IsEndStatus (put_as _ _ _ status.ReadFault _ _ (λ x. cc) (λ x. cc) holds.text_written is).0 (run_ends _) in e)
 
-  -- what was read and is refused is the told text, for its reason
-  one_reason : (text other : List ℕ) (chosen task : Task) (refusal reason : Refusal) → task_of words ≡ Ok chosen → task_of words ≡ Ok task → left ≡ Some text
-      → IsRead left left_now other → input_refusal task.options other ≡ Some reason → input_refusal chosen.options text ≡ Some refusal → reason ≡ refusal
-  one_reason text other chosen task refusal reason fine command told read found why =
-      let one : task ≡ chosen = cc in
-      let same : other ≡ text = read_text left left_now text other told read in
-      let e : Some reason ≡ Some refusal = sym found ∙ ap (λ (t : Task). input_refusal t.options other) one ∙ ap (input_refusal chosen.options) same ∙ why in
-      cc
+  pub swap_failed : IsWay → outcome.status ≡ status.SwapAtStart → HasSwapFault tells words left left_now written written_now backing outcome
+  swap_failed (Answered text wanted verdict answer said) is = absurd (never _ _ _ status.SwapAtStart _ _ (answers _ _ _ _ _ _ answer) (λ x. x) (λ x. cc) (λ x. cc) said.put is)
+  swap_failed (NotRead other chosen reads_it taken silent) is = absurd (let e : status.ReadFault ≡ status.SwapAtStart = sym silent.is ∙ is in cc)
+  swap_failed (Wanting other chosen reads_it taken silent) is = absurd (let e : status.NoMemory ≡ status.SwapAtStart = sym silent.is ∙ is in cc)
+  swap_failed (NotBegun order options flags unit input whole accepted failed broken) is =
+      record { order = order; options = options; flags = flags; unit = unit; input = input; whole = whole; accepted = accepted; failed = failed; report = broken.report; verdict = broken.verdict; put = broken.put }
+  swap_failed (NotRun order options flags unit input whole accepted broken) is = absurd (let e : status.NoMemory ≡ status.SwapAtStart = sym broken.is ∙ is in cc)
+  swap_failed (Ran report given none holds) is = absurd (let e = subst IsEndStatus (put_as _ _ _ status.SwapAtStart _ _ (λ x. cc) (λ x. cc) holds.text_written is).0 (run_ends _) in e)
 
-  pub answers_refusal : IsWay → AnswersRefusal words left written written_now outcome
-  answers_refusal (BadWords number bad taken none same put) text chosen refusal fine told why = absurd cc
-  answers_refusal (NotRead task command taken none same failed put) text chosen refusal fine told why = (none, inr failed)
-  answers_refusal (Refused task command other read reason found none same put) text chosen refusal fine told why = (
-    none,
-    inl (subst (λ (r : Refusal). IsWritten (refusal_line r) status.Input outcome.status written written_now)
-        (one_reason text other chosen task refusal reason fine command told read found why) put),
-  )
-  answers_refusal (Wanting task command taken none same wanting put) text chosen refusal fine told why = (none, inl (Nothing wanting put))
-  answers_refusal (NotBegun task unit other whole accepted none failed at put) text chosen refusal fine told why =
-      absurd (not_accepted text other chosen task unit refusal fine told whole accepted why)
-  answers_refusal (NotRun task unit other whole accepted none wanting put) text chosen refusal fine told why =
-      absurd (not_accepted text other chosen task unit refusal fine told whole accepted why)
-  answers_refusal (Ran report given holds) text chosen refusal fine told why =
-      absurd (not_accepted text holds.text chosen holds.task holds.unit refusal fine told holds.whole holds.accepted why)
+  pub nothing_put : IsWay → outcome.status ≡ status.NoMemory → Gains written written_now []
+  nothing_put (Answered text wanted verdict answer said) is = none_put _ _ _ _ _ (answers _ _ _ _ _ _ answer) said.put is
+  nothing_put (NotRead other chosen reads_it taken silent) is = silent.put
+  nothing_put (Wanting other chosen reads_it taken silent) is = silent.put
+  nothing_put (NotBegun order options flags unit input whole accepted failed broken) is = broken.put
+  nothing_put (NotRun order options flags unit input whole accepted broken) is = broken.put
+  nothing_put (Ran report given none holds) is = none_put _ _ _ _ _ (run_answers _) holds.text_written is
+    where
+      run_answers : (all : Bool) → IsAnswerStatus (if all then status.Fine else status.Ended)
+      run_answers true = tt
+      run_answers false = tt
 
-  -- ---- completeness
+  -- ---- the swap
 
-  -- a told text that is not refused is not the one that was read and is refused
-  not_refused : (text other : List ℕ) (chosen task : Task) (refusal : Refusal) → task_of words ≡ Ok chosen → task_of words ≡ Ok task → left ≡ Some text → IsRead left left_now other
-      → input_refusal task.options other ≡ Some refusal → input_refusal chosen.options text ≡ None → ⊥
-  not_refused text other chosen task refusal fine command told read why none =
-      let one : task ≡ chosen = cc in
-      let same : other ≡ text = read_text left left_now text other told read in
-      let e : Some refusal ≡ None = sym why ∙ ap (λ (t : Task). input_refusal t.options other) one ∙ ap (input_refusal chosen.options) same ∙ none in
-      cc
+  pub swap_stays : IsWay → outcome.report ≡ None → outcome.status ≢ status.SwapAtStart → outcome.status ≢ status.NoMemory → outcome.backing ≡ backing
+  swap_stays (Answered text wanted verdict answer said) no_report begun memory = said.same
+  swap_stays (NotRead other chosen reads_it taken silent) no_report begun memory = silent.same
+  swap_stays (Wanting other chosen reads_it taken silent) no_report begun memory = silent.same
+  swap_stays (NotBegun order options flags unit input whole accepted failed broken) no_report begun memory = absurd (begun broken.is)
+  swap_stays (NotRun order options flags unit input whole accepted broken) no_report begun memory = absurd (memory broken.is)
+  swap_stays (Ran report given none holds) no_report begun memory = absurd (let e : Some report ≡ None = sym given ∙ no_report in cc)
 
-  run_whole : (report : Report) → outcome.report ≡ Some report → outcome.status ≢ status.WriteFault
-      → IsWritten (report_text report) (status_of report) outcome.status written written_now → WholeOrWanting written written_now outcome
-  run_whole report given no_fault (Whole is put) =
-      inl (subst (λ (o : Option Report). IsSomeAnd o (λ r. (outcome.status ≡ status_of r) × Gains written written_now (report_text r))) (sym given) (is, put))
-  run_whole report given no_fault (Front is put) = absurd (no_fault is)
-  run_whole report given no_fault (Nothing is put) = inr is
+  back_as : (task : Task) → outcome.backing ≡ backing → HandsBack backing task outcome
+  back_as (Run order options flags) same = tt
+  back_as (Check budget) same = same
+  back_as Asm same = same
+  back_as (Gen number boards pages) same = same
 
-  pub complete : IsWay → outcome.status ≢ status.ReadFault → outcome.status ≢ status.WriteFault → ((tells backing).faults < (tells outcome.backing).faults → ⊥)
-      → (text : List ℕ) (chosen : Task) → task_of words ≡ Ok chosen → left ≡ Some text → input_refusal chosen.options text ≡ None → WholeOrWanting written written_now outcome
-  complete (BadWords number bad taken none same put) no_read no_write no_swap text chosen fine told accepted = absurd cc
-  complete (NotRead task command taken none same failed put) no_read no_write no_swap text chosen fine told accepted = absurd (no_read failed)
-  complete (Refused task command other read refusal why none same put) no_read no_write no_swap text chosen fine told accepted =
-      absurd (not_refused text other chosen task refusal fine command told read why accepted)
-  complete (Wanting task command taken none same wanting put) no_read no_write no_swap text chosen fine told accepted = inr wanting
-  complete (NotBegun task unit other whole of_text none failed at put) no_read no_write no_swap text chosen fine told accepted = absurd (no_swap failed.rose)
-  complete (NotRun task unit other whole of_text none wanting put) no_read no_write no_swap text chosen fine told accepted = inr wanting
-  complete (Ran report given holds) no_read no_write no_swap text chosen fine told accepted = run_whole report given no_write holds.text_written
+  run_back : (task : Task) (order : _) (options : _) (flags : _) → task_of words ≡ Ok task → task_of words ≡ Ok (Run order options flags) → HandsBack backing task outcome
+  run_back task order options flags command chosen = subst (λ (t : Task). HandsBack backing t outcome) (one_task task (Run order options flags) command chosen) tt
 
-  -- ---- the report of a run whose writing failed
+  pub hands_back : IsWay → (task : Task) → task_of words ≡ Ok task → HandsBack backing task outcome
+  hands_back (Answered text wanted verdict answer said) task command = back_as task said.same
+  hands_back (NotRead other chosen reads_it taken silent) task command = back_as task silent.same
+  hands_back (Wanting other chosen reads_it taken silent) task command = back_as task silent.same
+  hands_back (NotBegun order options flags unit input whole accepted failed broken) task command = run_back task order options flags command accepted.command
+  hands_back (NotRun order options flags unit input whole accepted broken) task command = run_back task order options flags command accepted.command
+  hands_back (Ran report given none holds) task command = run_back task holds.order holds.options holds.flags command holds.accepted.command
 
-  pub kept : IsWay → outcome.status ≡ status.WriteFault
-      → (text : List ℕ) (chosen : Task) → task_of words ≡ Ok chosen → left ≡ Some text → input_refusal chosen.options text ≡ None → IsSome outcome.report
-  kept (BadWords number bad taken none same put) is text chosen fine told accepted = absurd cc
-  kept (NotRead task command taken none same failed put) is text chosen fine told accepted = absurd cc
-  kept (Refused task command other read refusal why none same put) is text chosen fine told accepted =
-      absurd (not_refused text other chosen task refusal fine command told read why accepted)
-  kept (Wanting task command taken none same wanting put) is text chosen fine told accepted = absurd cc
-  kept (NotBegun task unit other whole of_text none failed at put) is text chosen fine told accepted = absurd cc
-  kept (NotRun task unit other whole of_text none wanting put) is text chosen fine told accepted = absurd cc
-  kept (Ran report given holds) is text chosen fine told accepted = subst (λ (o : Option Report). IsSome o) (sym given) refl
+  -- ---- what is given
+
+  no_report : outcome.report ≡ None → IsSome outcome.report → ⊥
+  no_report none given = (let e = subst (λ (o : Option Report). IsSome o) none given in cc)
+
+  no_verdict : outcome.verdict ≡ None → IsSome outcome.verdict → ⊥
+  no_verdict none given = (let e = subst (λ (o : Option Verdict). IsSome o) none given in cc)
+
+  pub report_given : IsWay → IsSome outcome.report → MayGive outcome.status
+  report_given (Answered text wanted verdict answer said) some = absurd (no_report said.report some)
+  report_given (NotRead other chosen reads_it taken silent) some = absurd (no_report silent.report some)
+  report_given (Wanting other chosen reads_it taken silent) some = absurd (no_report silent.report some)
+  report_given (NotBegun order options flags unit input whole accepted failed broken) some = absurd (no_report broken.report some)
+  report_given (NotRun order options flags unit input whole accepted broken) some = absurd (no_report broken.report some)
+  report_given (Ran report given none holds) some = written_gives _ _ _ _ _ (run_ends _) holds.text_written
+
+  -- a verdict is given with the same statuses
+  input_gives : (task : Task) (input text : List ℕ) (wanted : Status) (verdict : Option Verdict) → IsInputAnswer task input text wanted verdict → outcome.verdict ≡ verdict
+      → IsSome outcome.verdict → IsWritten text wanted outcome.status written written_now → MayGive outcome.status
+  input_gives task input text wanted verdict (Refuses refusal why) given some put = absurd (no_verdict given some)
+  input_gives task input text wanted verdict (Assembles asm unit said) given some put = absurd (no_verdict given some)
+  input_gives task input text wanted verdict (Judges budget check v on) given some put = written_gives _ _ _ _ _ (verdict_ends v) put
+
+  answer_gives : (text : List ℕ) (wanted : Status) (verdict : Option Verdict) → IsAnswer words left left_now text wanted verdict → outcome.verdict ≡ verdict
+      → IsSome outcome.verdict → IsWritten text wanted outcome.status written written_now → MayGive outcome.status
+  answer_gives text wanted verdict (ToWords number bad taken) given some put = absurd (no_verdict given some)
+  answer_gives text wanted verdict (Generates number boards pages chosen taken) given some put = absurd (no_verdict given some)
+  answer_gives text wanted verdict (ToInput task chosen input read text1 wanted1 verdict1 answer) given some put = input_gives task input text wanted verdict answer given some put
+
+  pub verdict_given : IsWay → IsSome outcome.verdict → MayGive outcome.status
+  verdict_given (Answered text wanted verdict answer said) some = answer_gives text wanted verdict answer said.given some said.put
+  verdict_given (NotRead other chosen reads_it taken silent) some = absurd (no_verdict silent.verdict some)
+  verdict_given (Wanting other chosen reads_it taken silent) some = absurd (no_verdict silent.verdict some)
+  verdict_given (NotBegun order options flags unit input whole accepted failed broken) some = absurd (no_verdict broken.verdict some)
+  verdict_given (NotRun order options flags unit input whole accepted broken) some = absurd (no_verdict broken.verdict some)
+  verdict_given (Ran report given none holds) some = absurd (no_verdict none some)
+
+  pub headline_of : IsWay → IfSome outcome.report Runs
+  headline_of (Answered text wanted verdict answer said) = subst (λ (o : Option Report). IfSome o Runs) (sym said.report) tt
+  headline_of (NotRead other chosen reads_it taken silent) = subst (λ (o : Option Report). IfSome o Runs) (sym silent.report) tt
+  headline_of (Wanting other chosen reads_it taken silent) = subst (λ (o : Option Report). IfSome o Runs) (sym silent.report) tt
+  headline_of (NotBegun order options flags unit input whole accepted failed broken) = subst (λ (o : Option Report). IfSome o Runs) (sym broken.report) tt
+  headline_of (NotRun order options flags unit input whole accepted broken) = subst (λ (o : Option Report). IfSome o Runs) (sym broken.report) tt
+  headline_of (Ran report given none holds) = subst (λ (o : Option Report). IfSome o Runs) (sym given) holds

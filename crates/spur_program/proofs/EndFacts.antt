@@ -30,8 +30,8 @@ use Rattle.spur_loader.specs.declared.opening.Opening.{Opening}
 use Rattle.spur_board.specs.Boards.{IsNew}
 use Rattle.spur_core.specs.declared.world.Beginning.{Beginning}
 use Rattle.spur_core.specs.declared.world.World.{World}
-use Rattle.spur_program.specs.declared.words.Command.{Command}
-use Rattle.spur_program.specs.declared.words.Command.TheVariants.{Run as Rounds, Sched}
+use Rattle.spur_words.specs.declared.task.Order.{Order}
+use Rattle.spur_words.specs.declared.task.Order.TheVariants.{Rounds, Schedule}
 use Rattle.spur_core.specs.Begin.{AreNewBoards, KeepsBeginning}
 use Rattle.spur_core.specs.World.{start_of}
 use Rattle.spur_core.specs.Start.{Start, opened_state}
@@ -40,10 +40,10 @@ use Rattle.spur_core.proofs.GoodFacts.{empty_joined}
 use Rattle.spur_core.proofs.PartFacts.{good-has-its-parts}
 use Rattle.spur_core.proofs.SameFacts.{got_map}
 use Rattle.spur_program.specs.declared.run.Finished.{Finished}
-use Rattle.spur_program.specs.Headline.{AllAreOut, HasFollowed, HaveEndings, IsInProgramOrder, IsOfOneMachine, IsRunOf, IsStoppedBySwap, Run}
+use Rattle.spur_program.specs.Headline.{AllAreOut, HasFollowedProgram, HaveEndings, IsInProgramOrder, IsOfOneMachine, IsRunOf, IsStoppedBySwap, Run}
 use Rattle.spur_sched.specs.Followed.{IsScheduled, still_running}
 use Rattle.spur_sched.specs.Picks.{running_from}
-use Rattle.spur_program.specs.Runs.{FollowsCommand, GoesByCommand, IsScheduledRun, first_runners, run_of, runners_from, start_from}
+use Rattle.spur_program.specs.Runs.{FollowsOrder, GoesByOrder, IsScheduledRun, first_runners, run_of, runners_from, start_from}
 
 -- the swap has ended a board
 swap_fault : (ended : Option Ending) → is_swapped ended ≡ true → ended ≡ Some ending.SwapFault
@@ -111,7 +111,7 @@ module _ {C S B : Type 0} (m : Meaning S) (state : C → S) (spare : C → ℕ) 
   followed : (i : ℕ) (b : Board C) → slice_get boards i ≡ Some b → FollowsProgram m state spare start past i b
   followed i b at = subst (λ (h : List Entry). FollowsProgram m state spare start h i b) whole_is (good.programs.each i b at)
 
-  follows_as : (i : ℕ) (first : S) (b : Board C) → slice_get start.firsts i ≡ Some first → FollowsProgram m state spare start past i b → HasFollowed m start i first (own_entries past i) (runner_of m state b)
+  follows_as : (i : ℕ) (first : S) (b : Board C) → slice_get start.firsts i ≡ Some first → FollowsProgram m state spare start past i b → HasFollowedProgram m start i first (own_entries past i) (runner_of m state b)
   follows_as i first b at follows = record { registers = follows.segs; limit = follows.budget; led = follows.led first at }
 
   in_order : IsInProgramOrder m start past runners
@@ -120,7 +120,7 @@ module _ {C S B : Type 0} (m : Meaning S) (state : C → S) (spare : C → ℕ) 
     formed = subst (λ (z : ℕ × List Entry). AllByRecursion (IsFormed z.0) z.1) (λ k. (sym good.begins.segs k, whole_is k)) good.formed;
     each = λ i first runner at here.
         let from = got_map (runner_of m state) boards i runner here in
-        subst (HasFollowed m start i first (own_entries past i)) from.is (follows_as i first from.old at (followed i from.old from.there));
+        subst (HasFollowedProgram m start i first (own_entries past i)) from.is (follows_as i first from.old at (followed i from.old from.there));
   }
 
   stopped_as : (i : ℕ) (b : Board C) → FollowsProgram m state spare start past i b → is_swapped b.ended ≡ true → IsStoppedBySwap m i (own_entries past i) (runner_of m state b)
@@ -276,12 +276,12 @@ module _ {C S B : Type 0} (m : Meaning S) (state : C → S) (tells : B → Swap)
       record { followed = is.followed; order = is.order; few = is.few }
 
   -- the order of a world's run is that of the whole run
-  pub order_followed : (command : Command) (opening : Opening) (cpus : List C) (before : Swap) (old new : World C B) (ran : Finished C B) → GoesByCommand m state command old new
+  pub order_followed : (order : Order) (opening : Opening) (cpus : List C) (before : Swap) (old new : World C B) (ran : Finished C B) → GoesByOrder m state order old new
       → length cpus ≡ length opening.segs → AreNewBoards opening.segs opening.options.lines opening.options.budget cpus old.boards.items → old.beginning.opening.value ≡ opening → old.store.history.entries ≡ []
       → ran.store ≡ record new.store { phys = ran.store.phys } → OnlyLines board_lens new.boards.items ran.boards.items
-      → FollowsCommand m command (start_from state opening cpus before) (run_of m state tells ran)
+      → FollowsOrder m order (start_from state opening cpus before) (run_of m state tells ran)
   order_followed Rounds opening cpus before old new ran goes count fresh keeps empty kept only = tt
-  order_followed (Sched number) opening cpus before old new ran goes count fresh keeps empty kept only =
+  order_followed (Schedule number) opening cpus before old new ran goes count fresh keeps empty kept only =
       let boards : length old.boards.items ≡ length opening.segs = fresh.count ∙ count in
       let most : length old.boards.items * (old.beginning.opening.value.options.budget + 1) ≡ length opening.segs * (opening.options.budget + 1) = λ k. boards k * ((keeps k).options.budget + 1) in
       let olds = new_are_first m state opening cpus old.boards.items before count fresh in

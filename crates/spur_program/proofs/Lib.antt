@@ -1,6 +1,7 @@
-pub mod WordFacts
-pub mod InputFacts
+pub mod EndFacts
+pub mod PlainFacts
+pub mod TraceFacts
+pub mod WrittenFacts
 pub mod WayFacts
 pub mod AnswerFacts
-pub mod PlainFacts
-pub mod EndFacts
+pub mod CompleteFacts

@@ -16,14 +16,14 @@ use Rattle.spur_core.specs.Loaded.{AreAtBeginning, IsAtBeginning}
 use Rattle.spur_core.specs.Start.{Start}
 use Rattle.spur_core.specs.Step.{runners_of}
 use Rattle.spur_core.proofs.LoadedFacts.{loaded_may_begin}
+use Rattle.spur_report.specs.declared.report.BoardReport.{BoardReport}
+use Rattle.spur_words.specs.declared.task.Order.{Order}
 use Rattle.spur_program.specs.declared.plain.Reported.{Reported}
-use Rattle.spur_program.specs.declared.report.BoardReport.{BoardReport}
 use Rattle.spur_program.specs.declared.run.Finished.{Finished}
-use Rattle.spur_program.specs.declared.words.Command.{Command}
-use Rattle.spur_program.specs.Accepted.{IsLoadedOpening}
+use Rattle.spur_input.specs.Program.{IsLoadedOpening}
 use Rattle.spur_program.specs.Headline.{IsRunOf, Run}
-use Rattle.spur_program.specs.Runs.{FollowsCommand, run_of, start_from}
-use Rattle.spur_program.specs.Reports.{IsReportFrom, IsReportOf, ShowsBoard, plain_start, row_of, run_in}
+use Rattle.spur_program.specs.Runs.{FollowsOrder, run_of, start_from}
+use Rattle.spur_program.specs.Reports.{IsReportFrom, IsReportOf, ShowsBoard, head_of, plain_start, report_row, run_in}
 
 -- ---- processors
 
@@ -83,19 +83,19 @@ bare_begins opening code cpus loaded are =
 
 -- ---- reports
 
-shows_rows : (boards : List (Board PlainCpu)) → AllZip ShowsBoard (map row_of boards) (runners_of plain plain_of boards)
+shows_rows : (boards : List (Board PlainCpu)) → AllZip ShowsBoard (map report_row boards) (runners_of plain plain_of boards)
 shows_rows [] = tt
 shows_rows (b ∷ boards) = (record { program = refl; swap = refl; retired = refl; registers = refl; shown = refl }, shows_rows boards)
 
--- what a run has come to, in the order of a command
-abbrev HasCome : Command → Start Plain → Run Plain → Type 0
-HasCome command start run = IsRunOf plain start run × FollowsCommand plain command start run
+-- what a run has come to, in this order
+abbrev HasCome : Order → Start Plain → Run Plain → Type 0
+HasCome order start run = IsRunOf plain start run × FollowsOrder plain order start run
 
 -- what is reported of a run is the report of it
-report_is : {B : Type 0} (tells : B → Swap) (opening : Opening) (code : List (List Instr)) (command : Command) (cpus : List PlainCpu) (before : Swap) (ran : Finished PlainCpu B) (done : Reported B)
-    → map plain_of cpus ≡ map opened opening.code → HasCome command (start_from plain_of (record opening { code = code }) cpus before) (run_of plain plain_of tells ran) → IsReportFrom ran done
-    → IsReportOf opening command before (tells done.backing) done.report
-report_is tells opening code command cpus before ran done states come from =
+report_is : {B : Type 0} (tells : B → Swap) (opening : Opening) (code : List (List Instr)) (order : Order) (cpus : List PlainCpu) (before : Swap) (ran : Finished PlainCpu B) (done : Reported B)
+    → map plain_of cpus ≡ map opened opening.code → HasCome order (start_from plain_of (record opening { code = code }) cpus before) (run_of plain plain_of tells ran) → IsReportFrom (head_of opening) ran done
+    → IsReportOf opening order before (tells done.backing) done.report
+report_is tells opening code order cpus before ran done states come from =
     let start : start_from plain_of (record opening { code = code }) cpus before ≡ plain_start opening before.faults =
     λ k. record { flat = opening.flat; segs = opening.segs; options = opening.options; firsts = states k; faults = before.faults } in
     let run : run_of plain plain_of tells ran ≡ run_in done.report (runners_of plain plain_of ran.boards.items) (tells done.backing) = λ k. record {
@@ -105,17 +105,18 @@ report_is tells opening code command cpus before ran done states come from =
       swap = (tells (sym from.swap k)).pages;
       faults = (tells (sym from.swap k)).faults;
     } in
-    let all = subst (λ (z : Start Plain × Run Plain). HasCome command z.0 z.1) (λ k. (start k, run k)) come in
+    let all = subst (λ (z : Start Plain × Run Plain). HasCome order z.0 z.1) (λ k. (start k, run k)) come in
     record {
       boards = runners_of plain plain_of ran.boards.items;
       rows = subst (λ (rows : List BoardReport). AllZip ShowsBoard rows (runners_of plain plain_of ran.boards.items)) (sym from.boards) (shows_rows ran.boards.items);
+      head = from.head_is;
       run = all.0;
-      order = all.1;
+      followed = all.1;
     }
 
 -- so it is where a report was made
-pub report_if-Ok : {B E : Type 0} (tells : B → Swap) (opening : Opening) (code : List (List Instr)) (command : Command) (cpus : List PlainCpu) (before : Swap) (ran : Finished PlainCpu B)
-    (result : Result (Reported B) E) → map plain_of cpus ≡ map opened opening.code → HasCome command (start_from plain_of (record opening { code = code }) cpus before) (run_of plain plain_of tells ran)
-    → IfOk result (IsReportFrom ran) → IfOk result (λ done. IsReportOf opening command before (tells done.backing) done.report)
-report_if-Ok tells opening code command cpus before ran (Ok done) states come from = report_is tells opening code command cpus before ran done states come from
-report_if-Ok tells opening code command cpus before ran (Err fault) states come from = tt
+pub report_if-Ok : {B E : Type 0} (tells : B → Swap) (opening : Opening) (code : List (List Instr)) (order : Order) (cpus : List PlainCpu) (before : Swap) (ran : Finished PlainCpu B)
+    (result : Result (Reported B) E) → map plain_of cpus ≡ map opened opening.code → HasCome order (start_from plain_of (record opening { code = code }) cpus before) (run_of plain plain_of tells ran)
+    → IfOk result (IsReportFrom (head_of opening) ran) → IfOk result (λ done. IsReportOf opening order before (tells done.backing) done.report)
+report_if-Ok tells opening code order cpus before ran (Ok done) states come from = report_is tells opening code order cpus before ran done states come from
+report_if-Ok tells opening code order cpus before ran (Err fault) states come from = tt

@@ -1,25 +1,36 @@
 -- How the ways of the top call come about.
-use Rattle.std.proofs.Common.{◌≡◌, ℕ, ◌<◌, ◌≤◌, ◌+◌, List, [], length, Option, Some, None, Ok, refl, sym, ap, ◌∙◌, subst, append-nil, arith}
-use Rattle.std.proofs.lemmas.Bool.{lt-ltb}
+use Rattle.std.proofs.Common.{◌≡◌, ℕ, ◌<◌, ◌≤◌, ◌+◌, Bool, true, List, [], length, Option, Some, None, Result, Ok, Err, refl, sym, ap, ◌∙◌, subst, append-nil, arith}
 use Rattle.std.proofs.lemmas.List.{length-append}
-use Rattle.spur_io.specs.Told.{Loses, LosesCount, IsAtEnd, Gains}
+use Rattle.spur_io.specs.Told.{Loses, LosesAtMost, LosesCount, IsAtEnd, Gains}
+use Rattle.spur_io.specs.declared.whole.ReadAll.{ReadAll}
+use Rattle.spur_io.specs.declared.whole.ReadAll.TheVariants as reading
 use Rattle.spur_swap.specs.Meaning.{Swap}
-use Rattle.spur_loader.specs.declared.opening.Options.{Options}
-use Rattle.spur_program.specs.declared.refusal.Refusal.TheVariants.{TooLong}
 use Rattle.spur_loader.specs.declared.opening.Opening.{Opening}
+use Rattle.spur_loader.specs.declared.opening.Options.{Options}
+use Rattle.spur_loader.specs.Opening.{opening_of}
+use Rattle.spur_report.specs.declared.report.Flags.{Flags}
+use Rattle.spur_report.specs.declared.report.Report.{Report}
+use Rattle.spur_report.specs.Texts.{report_text}
+use Rattle.spur_words.specs.declared.task.Order.{Order}
+use Rattle.spur_words.specs.declared.task.Task.{Task}
+use Rattle.spur_words.specs.declared.task.Task.TheVariants.{Run, Check, Asm, Gen}
+use Rattle.spur_words.specs.Words.{task_of}
+use Rattle.spur_input.specs.declared.refusal.NotAccepted.{NotAccepted}
+use Rattle.spur_input.specs.declared.refusal.NotAccepted.TheVariants as unaccepted
+use Rattle.spur_input.specs.declared.refusal.Refusal.{Refusal}
+use Rattle.spur_input.specs.declared.refusal.Refusal.TheVariants.{TooLong}
+use Rattle.spur_input.specs.Program.{IsLoadable, IsOpeningOf}
+use Rattle.spur_input.specs.Refused.{IsLong, IsLongInput, IsLongText}
+use Rattle.spur_input.specs.Texts.{refusal_line}
 use Rattle.spur_program.specs.declared.run.RunFault.{RunFault}
 use Rattle.spur_program.specs.declared.run.RunFault.TheVariants.{SwapAtStart, NoMemory}
-use Rattle.spur_program.specs.declared.report.Report.{Report}
 use Rattle.spur_program.specs.declared.report.Outcome.{Outcome}
 use Rattle.spur_program.specs.declared.report.Status.{Status}
 use Rattle.spur_program.specs.declared.report.Status.TheVariants as status
-use Rattle.spur_program.specs.declared.words.Task.{Task}
-use Rattle.spur_program.specs.Words.{task_of}
-use Rattle.spur_program.specs.Texts.{refusal_line, report_text}
-use Rattle.spur_program.specs.Accepted.{input_limit, IsLeft, Whole as All, Front as More, IsWhole, IsOpeningOfText, input_refusal}
+use Rattle.spur_program.specs.Accepted.{IsLeft, IsRefused, IsWhole, ReadFront, ReadWhole, limit_of, reads_input}
 use Rattle.spur_program.specs.Reports.{IsReportOf}
 use Rattle.spur_program.specs.Runs.{HasFailedAtStart}
-use Rattle.spur_program.specs.Answer.{InputAnswered, Reported, IsRefusedAs, IsUnopened, IsUnbegun, IsUndone, IsWritten, fault_status, status_of, Way, Refused, Wanting, NotBegun, NotRun, Ran}
+use Rattle.spur_program.specs.Answer.{InputAnswered, Said, Unsaid, Reported, Unbegun, Undone, IsBroken, IsSaid, IsSilent, IsTracedGood, IsWritten, Refuses, ToInput, fault_status, status_of, Way, Answered, NotRead, Wanting, NotBegun, NotRun, Ran}
 
 -- nothing was put, and nothing was taken
 pub gains-none : (written : Option (List ℕ)) → Gains written written []
@@ -31,49 +42,68 @@ loses-none None = tt
 loses-none (Some bytes) = refl
 
 -- another name for the text that was to be written
-pub written_as : (line text : List ℕ) (wanted got : Status) (written now : Option (List ℕ)) → line ≡ text → IsWritten line wanted got written now
-    → IsWritten text wanted got written now
-written_as line text wanted got written now same is = subst (λ (bytes : List ℕ). IsWritten bytes wanted got written now) same is
+pub said_as : {B : Type 0} (line text : List ℕ) (wanted : Status) (verdict : _) (written now : Option (List ℕ)) (backing : B) (outcome : Outcome B) → line ≡ text
+    → IsSaid line wanted verdict written now backing outcome → IsSaid text wanted verdict written now backing outcome
+said_as line text wanted verdict written now backing outcome same is = subst (λ (bytes : List ℕ). IsSaid bytes wanted verdict written now backing outcome) same is
 
 -- what was read whole
 pub whole_of : (left left_now : Option (List ℕ)) (input text : List ℕ) → text ≡ input → Loses left left_now input → IsAtEnd left_now → IsWhole left left_now text
 whole_of left left_now input text same given end =
     record { given = subst (λ (bytes : List ℕ). Loses left left_now bytes) (sym same) given; end = end }
 
--- ---- a text with too many bytes
+-- ---- an input with too many bytes
 
-long_refused : (options : Options) (text : List ℕ) → input_limit < length text → input_refusal options text ≡ Some TooLong
-long_refused options text long = (let is = lt-ltb input_limit (length text) long in rw is refl)
+long_refused : (task : Task) (input : List ℕ) → reads_input task ≡ true → limit_of task < length input → IsRefused task input (TooLong (limit_of task))
+long_refused (Run order options flags) input reads_it long = IsLong long
+long_refused (Check budget) input reads_it long = IsLongInput long
+long_refused Asm input reads_it long = IsLongText long
+long_refused (Gen number boards pages) input reads_it long = absurd cc
 
--- a front of one byte more than the limit was taken of some text with too many bytes
-record HasLongText (left left_now : Option (List ℕ)) : Type 0 where
-  pub text : List ℕ
-  pub long : input_limit < length text
-  pub had : IsLeft left text
+-- a front of one byte more than the limit was taken of some input with too many bytes
+record HasLongInput (limit : ℕ) (left left_now : Option (List ℕ)) : Type 0 where
+  pub input : List ℕ
+  pub long : limit < length input
+  pub had : IsLeft left input
 
-long_text : (left left_now : Option (List ℕ)) (bytes : List ℕ) → Loses left left_now bytes → length bytes ≡ input_limit + 1 → HasLongText left left_now
-long_text None None bytes loses count = record { text = bytes; long = omega arith; had = tt }
-long_text None (Some new) bytes loses count = absurd loses
-long_text (Some old) None bytes loses count = absurd loses
-long_text (Some old) (Some new) bytes loses count =
-    record { text = old; long = (let same : length old ≡ length bytes + length new = ap length loses ∙ length-append bytes new in omega arith); had = refl }
+long_input : (limit : ℕ) (left left_now : Option (List ℕ)) (bytes : List ℕ) → Loses left left_now bytes → length bytes ≡ limit + 1 → HasLongInput limit left left_now
+long_input limit None None bytes loses count = record { input = bytes; long = omega arith; had = tt }
+long_input limit None (Some new) bytes loses count = absurd loses
+long_input limit (Some old) None bytes loses count = absurd loses
+long_input limit (Some old) (Some new) bytes loses count =
+    record { input = old; long = (let same : length old ≡ length bytes + length new = ap length loses ∙ length-append bytes new in omega arith); had = refl }
 
 -- ---- what an input that was read whole is answered
 
-module _ {B : Type 0} (tells : B → Swap) (text : List ℕ) (task : Task) (written written_now : Option (List ℕ)) (backing other : B) (outcome : Outcome B) where
+module _ {B : Type 0} (tells : B → Swap) (input : List ℕ) (order : Order) (options : Options) (flags : Flags) (written written_now : Option (List ℕ)) (backing other : B) (outcome : Outcome B) where
+  abbrev IsRunAnswered : Type 0
+  IsRunAnswered = InputAnswered tells (Run order options flags) input written written_now backing outcome
+
   -- the run of an opening was reported
-  pub report_answered : (opening : Opening) (report : Report) → IsOpeningOfText task.options text opening → IsReportOf opening task.command (tells backing) (tells other) report → outcome.report ≡ Some report → outcome.backing ≡ other
-      → IsWritten (report_text report) (status_of report) outcome.status written written_now → InputAnswered tells text task written written_now backing outcome
-  report_answered opening report opens reports given same put =
-      Reported report opens.unit given opens.of_text
-      (subst (λ (z : Opening × B). IsReportOf z.0 task.command (tells backing) (tells z.1) report) (λ k. (opens.is k, sym same k)) reports) put
+  pub report_answered : (opening : Opening) (report : Report) → IsOpeningOf options input opening → IsReportOf opening order (tells backing) (tells other) report
+      → IsTracedGood opening flags (tells other) outcome.status report → outcome.report ≡ Some report → outcome.verdict ≡ None → outcome.backing ≡ other
+      → IsWritten (report_text report flags) (status_of report) outcome.status written written_now → IsRunAnswered
+  report_answered opening report opens reports traced given none same put =
+      Reported order options flags refl opens.unit opens.loadable report given none
+      (subst (λ (z : Opening × B). IsReportOf z.0 order (tells backing) (tells z.1) report) (λ k. (opens.is k, sym same k)) reports) put
+      (subst (λ (z : Opening × B). IsTracedGood z.0 flags (tells z.1) outcome.status report) (λ k. (opens.is k, sym same k)) traced)
 
   -- the boards of an opening were not run to their ends
-  pub fault_answered : (opening : Opening) (fault : RunFault) → IsOpeningOfText task.options text opening → (fault ≡ SwapAtStart → HasFailedAtStart (tells backing) (tells other)) → outcome.backing ≡ other
-      → outcome.report ≡ None → outcome.status ≡ fault_status fault → InputAnswered tells text task written written backing outcome
-  fault_answered opening SwapAtStart opens cause same none at =
-      IsUnbegun opens.unit opens.of_text none (subst (λ (b : B). HasFailedAtStart (tells backing) (tells b)) (sym same) (cause refl)) at (gains-none written)
-  fault_answered opening NoMemory opens cause same none at = IsUndone opens.unit opens.of_text none at (gains-none written)
+  pub fault_answered : (opening : Opening) (fault : RunFault) → IsOpeningOf options input opening → (fault ≡ SwapAtStart → HasFailedAtStart (tells backing) (tells other)) → outcome.backing ≡ other
+      → outcome.report ≡ None → outcome.verdict ≡ None → outcome.status ≡ fault_status fault → Gains written written_now [] → IsRunAnswered
+  fault_answered opening SwapAtStart opens cause same none also at put =
+      Unbegun order options flags refl opens.unit opens.loadable (subst (λ (b : B). HasFailedAtStart (tells backing) (tells b)) (sym same) (cause refl))
+      record { is = at; report = none; verdict = also; put = put }
+  fault_answered opening NoMemory opens cause same none also at put = Undone order options flags refl opens.unit opens.loadable record { is = at; report = none; verdict = also; put = put }
+
+-- an input that is not accepted
+pub not_accepted_answered : {B : Type 0} (tells : B → Swap) (task : Task) (input : List ℕ) (written written_now : Option (List ℕ)) (backing : B) (outcome : Outcome B) (why : NotAccepted)
+    → ((refusal : Refusal) → why ≡ unaccepted.Refused refusal → IsRefused task input refusal)
+    → ((refusal : Refusal) → why ≡ unaccepted.Refused refusal → IsSaid (refusal_line refusal) status.Input None written written_now backing outcome)
+    → (why ≡ unaccepted.NoMemory → IsSilent status.NoMemory written written_now backing outcome)
+    → InputAnswered tells task input written written_now backing outcome
+not_accepted_answered tells task input written written_now backing outcome (unaccepted.Refused refusal) cause said silent =
+    Said (refusal_line refusal) status.Input None (Refuses refusal (cause refusal refl)) (said refusal refl)
+not_accepted_answered tells task input written written_now backing outcome unaccepted.NoMemory cause said silent = Unsaid (silent refl)
 
 -- ---- the ways
 
@@ -82,27 +112,42 @@ module _ {B : Type 0} (tells : B → Swap) (words : List (List ℕ)) (left left_
   IsSomeWay = Way tells words left left_now written written_now backing outcome
 
   -- one byte more than the limit was taken
-  pub read_long : LosesCount left left_now (input_limit + 1) → outcome.report ≡ None → outcome.backing ≡ backing
-      → IsWritten (refusal_line TooLong) status.Input outcome.status written written_now → IsSomeWay
-  read_long taken none same put =
-      let long = long_text left left_now taken.0 taken.1 taken.2 in
-      Refused task command long.text (More long.long long.had taken) TooLong (long_refused task.options long.text long.long) none same put
+  read_long : reads_input task ≡ true → LosesCount left left_now (limit_of task + 1)
+      → IsSaid (refusal_line (TooLong (limit_of task))) status.Input None written written_now backing outcome → IsSomeWay
+  read_long reads_it taken said =
+      let long = long_input (limit_of task) left left_now taken.0 taken.1 taken.2 in
+      let answer = Refuses (TooLong (limit_of task)) (long_refused task long.input reads_it long.long) in
+      Answered (refusal_line (TooLong (limit_of task))) status.Input None
+      (ToInput task command long.input (ReadFront long.long long.had taken) (refusal_line (TooLong (limit_of task))) status.Input None answer) said
+
+  -- an input that was not read whole
+  pub read_not : reads_input task ≡ true → (why : ReadAll) → (why ≡ reading.TooLong → LosesCount left left_now (limit_of task + 1)) → LosesAtMost left left_now (limit_of task + 1)
+      → (why ≡ reading.TooLong → IsSaid (refusal_line (TooLong (limit_of task))) status.Input None written written_now backing outcome)
+      → (why ≡ reading.ReadFault → IsSilent status.ReadFault written written_now backing outcome)
+      → (why ≡ reading.NoMemory → IsSilent status.NoMemory written written_now backing outcome) → IsSomeWay
+  read_not reads_it reading.TooLong taken most said failed wanting = read_long reads_it (taken refl) (said refl)
+  read_not reads_it reading.ReadFault taken most said failed wanting = NotRead task command reads_it most (failed refl)
+  read_not reads_it reading.NoMemory taken most said failed wanting = Wanting task command reads_it most (wanting refl)
 
   -- an input that was read whole ends in one of five ways
-  pub read_whole : (text : List ℕ) → IsWhole left left_now text → length text ≤ input_limit → InputAnswered tells text task written written_now backing outcome → IsSomeWay
-  read_whole text whole within (Reported report unit is of_text reports put) =
-      Ran report is record {
-        text = text;
+  pub read_whole : reads_input task ≡ true → (input : List ℕ) → IsWhole left left_now input → length input ≤ limit_of task → InputAnswered tells task input written written_now backing outcome → IsSomeWay
+  read_whole reads_it input whole within (Said text wanted verdict answer said) =
+      Answered text wanted verdict (ToInput task command input (ReadWhole within whole) text wanted verdict answer) said
+  read_whole reads_it input whole within (Unsaid silent) = Wanting task command reads_it (input, whole.given, omega (arith, within)) silent
+  read_whole reads_it input whole within (Reported order options flags run unit loadable report given none reports put traced) =
+      Ran report given none record {
+        input = input;
         whole = whole;
-        task = task;
+        order = order;
+        options = options;
+        flags = flags;
         unit = unit;
-        accepted = record { command = command; within = within; of_text = of_text };
+        accepted = record { command = command ∙ ap (λ (t : Task). Ok t) run; loadable = loadable };
         reports = reports;
         text_written = put;
+        traced = traced;
       }
-  read_whole text whole within (IsRefusedAs refusal why none same put) = Refused task command text (All within whole) refusal why none same put
-  read_whole text whole within (IsUnopened none same wanting put) = Wanting task command (text, whole.given, omega (arith, within)) none same wanting put
-  read_whole text whole within (IsUnbegun unit of_text none failed at put) =
-      NotBegun task unit text whole record { command = command; within = within; of_text = of_text } none failed at put
-  read_whole text whole within (IsUndone unit of_text none wanting put) =
-      NotRun task unit text whole record { command = command; within = within; of_text = of_text } none wanting put
+  read_whole reads_it input whole within (Unbegun order options flags run unit loadable failed broken) =
+      NotBegun order options flags unit input whole record { command = command ∙ ap (λ (t : Task). Ok t) run; loadable = loadable } failed broken
+  read_whole reads_it input whole within (Undone order options flags run unit loadable broken) =
+      NotRun order options flags unit input whole record { command = command ∙ ap (λ (t : Task). Ok t) run; loadable = loadable } broken

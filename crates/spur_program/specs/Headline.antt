@@ -1,9 +1,9 @@
--- The headline of a run, over any kind of processor and its beginning: the opening's flat state, registers and options, the
--- first state of each board's processor, and how many faults the swap had counted.
+-- The headline of a run, over any kind of processor and its beginning: the opening's flat state, registers and options,
+-- the first state of each board's processor, and how many faults the swap had counted.
 --
--- Whatever order the boards' steps take, the run gives one history: each board's loads, stores and test-and-sets stand in
--- it once and in program order, each answered or faulted as one machine over flat memory and its page table then may; its
--- bus entries obey the ownership rules; and the registers, the final memory and the swap are that history's.
+-- Whatever order the boards' steps take, the run gives one history: each board's loads, stores and test-and-sets stand
+-- in it once and in program order, each answered or faulted as one machine over flat memory and its page table then
+-- may; its bus entries obey the ownership rules; and the registers, the final memory and the swap are that history's.
 use Rattle.std.specs.Prelude.{◌≡◌, ◌⊎◌, ◌+◌, ◌≤◌, ℕ, true, ◌∷◌, [], ◌++◌, List, length, take, Option, Some, None, slice_get, filter}
 use Rattle.std.specs.List.{AllByRecursion}
 use Rattle.spur_addr.specs.Address.{global_of}
@@ -24,8 +24,8 @@ use Rattle.spur_cpu.specs.After.{IsLed, begun}
 use Rattle.spur_core.specs.Start.{Start, opened_state}
 use Rattle.spur_core.specs.Step.{Runner, is_out}
 
--- what came of a run: the history, how each board came out, the words of memory at the end, the pages of the swap at the end
--- where it tells them, and how many faults the swap has counted then
+-- what came of a run: the history, how each board came out, the words of memory at the end, the pages of the swap at
+-- the end where it tells them, and how many faults the swap has counted then
 pub record Run (S : Type 0) : Type 0 where
   pub history : List Entry
   pub boards : List (Runner S)
@@ -36,8 +36,8 @@ pub record Run (S : Type 0) : Type 0 where
 -- ---- one machine
 
 -- Each entry of the history is allowed in the flat state after those before it: an access is answered or faulted as one
--- machine over flat memory and its page table then may. It obeys the ownership rules, and no bus entry is idle. The final
--- memory and the swap are those of the flat state after it.
+-- machine over flat memory and its page table then may. It obeys the ownership rules, and no bus entry is idle. The
+-- final memory and the swap are those of the flat state after it.
 pub record IsOneMachine (from : State) (history : List Entry) (memory swap : List ℕ) : Type 0 where
   pub entries : IsEach from history
   pub final_memory : memory ≡ (flat_after from.flat history).words
@@ -63,9 +63,9 @@ abbrev pub AllAreOut : {S : Type 0} → List (Runner S) → Type 0
 AllAreOut {S} boards = (i : ℕ) (board : Runner S) → slice_get boards i ≡ Some board → is_out board ≡ true
 
 module _ {S : Type 0} (m : Meaning S) where
-  -- A board has the segment registers and the budget of the beginning. The own entries are the accesses of its program, each once and
-  -- in order, from its first state up to where the program has come.
-  pub record HasFollowed (start : Start S) (i : ℕ) (first : S) (own : List Entry) (board : Runner S) : Type 0 where
+  -- A board has the segment registers and the budget of the beginning. The own entries are the accesses of its program,
+  -- each once and in order, from its first state up to where the program has come.
+  pub record HasFollowedProgram (start : Start S) (i : ℕ) (first : S) (own : List Entry) (board : Runner S) : Type 0 where
     pub registers : slice_get start.segs i ≡ Some board.segs
     pub limit : board.budget ≡ start.options.budget
     pub led : IsLed m board.segs board.budget (begun first) own board.course
@@ -76,10 +76,10 @@ module _ {S : Type 0} (m : Meaning S) where
     pub formed : AllByRecursion (IsFormed (length start.segs)) history
     pub each : (i : ℕ) (first : S) (board : Runner S) → slice_get start.firsts i ≡ Some first
         → slice_get boards i ≡ Some board
-        → HasFollowed start i first (own_entries history i) board
+        → HasFollowedProgram start i first (own_entries history i) board
 
-  -- the swap failed where a page that the next access needs was to be brought in: the last own entry is the fault of it, which is
-  -- Missing or Leaving, and the program still wants that access
+  -- the swap failed where a page that the next access needs was to be brought in: the last own entry is the fault of
+  -- it, which is Missing or Leaving, and the program still wants that access
   pub record IsStoppedBySwap (i : ℕ) (own : List Entry) (board : Runner S) : Type 0 where
     pub before : List Entry
     pub kind : FaultKind

@@ -1,5 +1,4 @@
 pub mod Statuses
-pub mod Words
 pub mod Texts
 pub mod Headline
 pub mod Runs

@@ -11,13 +11,15 @@ use Rattle.spur_board.specs.Boards.{course_ending}
 use Rattle.spur_core.specs.Boards.{is_swapped}
 use Rattle.spur_core.specs.Start.{Start}
 use Rattle.spur_core.specs.Step.{Runner}
+use Rattle.spur_loader.specs.Opening.{board_count}
+use Rattle.spur_trace.specs.declared.head.TraceHead.{TraceHead}
+use Rattle.spur_report.specs.declared.report.BoardReport.{BoardReport}
+use Rattle.spur_report.specs.declared.report.Report.{Report}
+use Rattle.spur_words.specs.declared.task.Order.{Order}
 use Rattle.spur_program.specs.declared.plain.Reported.{Reported}
-use Rattle.spur_program.specs.declared.report.BoardReport.{BoardReport}
-use Rattle.spur_program.specs.declared.report.Report.{Report}
 use Rattle.spur_program.specs.declared.run.Finished.{Finished}
-use Rattle.spur_program.specs.declared.words.Command.{Command}
 use Rattle.spur_program.specs.Headline.{IsRunOf, Run}
-use Rattle.spur_program.specs.Runs.{FollowsCommand}
+use Rattle.spur_program.specs.Runs.{FollowsOrder}
 
 -- the beginning of a run of the codes of an opening, where the swap has counted so many faults
 abbrev pub plain_start : Opening → ℕ → Start Plain
@@ -36,24 +38,31 @@ pub record ShowsBoard (row : BoardReport) (board : Runner Plain) : Type 0 where
 abbrev pub run_in : Report → List (Runner Plain) → Swap → Run Plain
 run_in report boards now = record { history = report.history; boards = boards; memory = report.last; swap = now.pages; faults = now.faults }
 
+-- what a trace of a run says of itself in its first line
+abbrev pub head_of : Opening → TraceHead
+head_of opening = record { boards = board_count opening; frames = opening.options.frames; lines = opening.options.lines }
+
 -- the report of a run of the codes of an opening
-pub record IsReportOf (opening : Opening) (command : Command) (before now : Swap) (report : Report) : Type 0 where
+pub record IsReportOf (opening : Opening) (order : Order) (before now : Swap) (report : Report) : Type 0 where
   -- how each board came out, and its row
   pub boards : List (Runner Plain)
   pub rows : AllZip ShowsBoard report.boards boards
+  -- its trace has the opening's number of boards, and the frames and lines of its options
+  pub head : report.head ≡ head_of opening
   -- what came of the run of these boards, and in which order they took their steps
   pub run : IsRunOf plain (plain_start opening before.faults) (run_in report boards now)
-  pub order : FollowsCommand plain command (plain_start opening before.faults) (run_in report boards now)
+  pub followed : FollowsOrder plain order (plain_start opening before.faults) (run_in report boards now)
 
 -- ---- how a report is made
 
 -- what a report says of a board
-abbrev pub row_of : Board PlainCpu → BoardReport
-row_of b = record { ending = b.ended; retired = b.retired; registers = (plain_of b.cpu).registers; shown = (plain_of b.cpu).shown }
+abbrev pub report_row : Board PlainCpu → BoardReport
+report_row b = record { ending = b.ended; retired = b.retired; registers = (plain_of b.cpu).registers; shown = (plain_of b.cpu).shown }
 
 -- what a report says of boards that have come to their ends, and of what they shared; the swap stays
-pub record IsReportFrom {B : Type 0} (ran : Finished PlainCpu B) (done : Reported B) : Type 0 where
-  pub boards : done.report.boards ≡ map row_of ran.boards.items
+pub record IsReportFrom {B : Type 0} (head : TraceHead) (ran : Finished PlainCpu B) (done : Reported B) : Type 0 where
+  pub boards : done.report.boards ≡ map report_row ran.boards.items
   pub history : done.report.history ≡ ran.store.history.entries
   pub last : done.report.last ≡ ran.store.phys
+  pub head_is : done.report.head ≡ head
   pub swap : done.backing ≡ ran.store.backing

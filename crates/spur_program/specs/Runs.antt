@@ -15,8 +15,8 @@ use Rattle.spur_sched.specs.Followed.{AreInOrder, IsFollowed, IsScheduled}
 use Rattle.spur_program.specs.declared.run.Finished.{Finished}
 use Rattle.spur_program.specs.declared.run.RunFault.{RunFault}
 use Rattle.spur_program.specs.declared.run.RunFault.TheVariants.{SwapAtStart, NoMemory}
-use Rattle.spur_program.specs.declared.words.Command.{Command}
-use Rattle.spur_program.specs.declared.words.Command.TheVariants.{Run as Rounds, Sched}
+use Rattle.spur_words.specs.declared.task.Order.{Order}
+use Rattle.spur_words.specs.declared.task.Order.TheVariants.{Rounds, Schedule}
 use Rattle.spur_program.specs.Headline.{Run}
 
 -- the beginning of a run of these processors from an opening
@@ -46,7 +46,8 @@ run_fault begin_fault.NoMemory = NoMemory
 
 -- ---- the order of the steps
 
--- the boards as a run begins with them: each at the beginning of its program, with these segment registers and this budget
+-- the boards as a run begins with them: each at the beginning of its program, with these segment registers and this
+-- budget
 abbrev pub runners_from : {S : Type 0} → ℕ → List (List ℕ) → List S → List (Runner S)
 runners_from limit [] firsts = []
 runners_from limit (registers ∷ segs) [] = []
@@ -56,23 +57,23 @@ runners_from limit (registers ∷ segs) (first ∷ firsts) =
 abbrev pub first_runners : {S : Type 0} → Start S → List (Runner S)
 first_runners start = runners_from start.options.budget start.segs start.firsts
 
--- Boards have followed the schedule with this start number, from where they stood to where they stand: each step picks a board by it,
--- which takes one whole instruction, and the steps use up each board's own entries and end with all boards. The entries of the
--- steps stand one behind the other, and there are at most so many steps.
+-- Boards have followed the schedule with this start number, from where they stood to where they stand: each step picks
+-- a board by it, which takes one whole instruction, and the steps use up each board's own entries and end with all
+-- boards. The entries of the steps stand one behind the other, and there are at most so many steps.
 pub record IsScheduledRun {S : Type 0} (m : Meaning S) (number most : ℕ) (olds : List (Runner S)) (entries : List Entry) (news : List (Runner S)) : Type 0 where
   pub followed : IsFollowed m number olds (own_entries entries) news
   pub order : AreInOrder entries followed.picks
   pub few : length followed.picks ≤ most
 
--- the order of a run is that of the command: of `run` none is said, and by `sched` the boards follow the schedule
-abbrev pub FollowsCommand : {S : Type 0} → Meaning S → Command → Start S → Run S → Type 0
-FollowsCommand m Rounds start run = Unit {0}
-FollowsCommand m (Sched number) start run =
+-- the order of a run: of rounds none is said, and by a schedule the boards follow it
+abbrev pub FollowsOrder : {S : Type 0} → Meaning S → Order → Start S → Run S → Type 0
+FollowsOrder m Rounds start run = Unit {0}
+FollowsOrder m (Schedule number) start run =
     IsScheduledRun m number (length start.segs * (start.options.budget + 1)) (first_runners start) run.history run.boards
 
 -- the same of a world that was run
-abbrev pub GoesByCommand : {C B S : Type 0} → Meaning S → (C → S) → Command → World C B → World C B → Type 0
-GoesByCommand m state Rounds old new = Unit {0}
-GoesByCommand m state (Sched number) old new =
+abbrev pub GoesByOrder : {C B S : Type 0} → Meaning S → (C → S) → Order → World C B → World C B → Type 0
+GoesByOrder m state Rounds old new = Unit {0}
+GoesByOrder m state (Schedule number) old new =
     IsScheduled m state number (length old.boards.items * (old.beginning.opening.value.options.budget + 1))
     old.store.history.entries new.store.history.entries old.boards.items new.boards.items

@@ -8,10 +8,9 @@ ghost use Rattle.spur_core.specs.Boards.{LogsAreEmpty, board_lens};
 ghost use Rattle.spur_core.specs.Step.{runners_of};
 ghost use Rattle.spur_core.specs.World.{IsGoodWorld};
 ghost use Rattle.spur_program.specs.Headline.{AllAreOut, IsRunOf};
-ghost use Rattle.spur_program.specs.Runs.{FollowsCommand, GoesByCommand, HasFailedAtStart, run_fault, run_of, start_from};
+ghost use Rattle.spur_program.specs.Runs.{FollowsOrder, GoesByOrder, HasFailedAtStart, run_fault, run_of, start_from};
 ghost use Rattle.spur_program.specs.declared.run.RunFault.TheVariants.{SwapAtStart};
 
-use crate::words::Command;
 use spur_board::Board;
 use spur_core::{BeginFault, BeginRefused, World};
 use spur_cpu::Cpu;
@@ -19,6 +18,7 @@ use spur_loader::Opening;
 use spur_pager::Store;
 use spur_sched::{run_rounds, run_schedule};
 use spur_swap::Backing;
+use spur_words::Order;
 use std::alloc::{AllocError, Global};
 
 /// Boards that have come to their ends, and what they shared.
@@ -88,41 +88,38 @@ fn written_back<C: Cpu, B: Backing>(world: World<C, B>) -> Finished<C, B>
     Finished { boards, store }
 }
 
-/// Runs the boards of a world to their ends, in the order of the command.
-fn run_world<C: Cpu, B: Backing>(
-    world: &mut World<C, B>,
-    command: Command,
-) -> Result<(), AllocError>
+/// Runs the boards of a world to their ends, in this order.
+fn run_world<C: Cpu, B: Backing>(world: &mut World<C, B>, order: Order) -> Result<(), AllocError>
     requires good { IsGoodWorld C.meaning C.state C.room B.meaning world.old }
     requires empty { LogsAreEmpty world.old.boards.items }
     ensures good { IsGoodWorld C.meaning C.state C.room B.meaning world.new }
     ensures beginning { world.new.beginning ≡ world.old.beginning }
     ensures empty { OnOk result (LogsAreEmpty world.new.boards.items) }
     ensures ended { OnOk result (AllAreOut (runners_of C.meaning C.state world.new.boards.items)) }
-    ensures order { OnOk result (GoesByCommand C.meaning C.state command world.old world.new) }
+    ensures order { OnOk result (GoesByOrder C.meaning C.state order world.old world.new) }
 {
-    match command {
-        Command::Run => run_rounds(world),
-        Command::Sched { start } => run_schedule(world, start),
+    match order {
+        Order::Rounds => run_rounds(world),
+        Order::Schedule { start } => run_schedule(world, start),
     }
 }
 
-/// Runs boards with these processors from an opening to their ends, in the order of the command, and writes all caches
+/// Runs boards with these processors from an opening to their ends, in this order, and writes all caches
 /// back to memory.
 ///
-/// `SwapAtStart` comes only where the swap's count of faults rose before the run, and no page was read then. Else the error
-/// is want of memory.
+/// `SwapAtStart` comes only where the swap's count of faults rose before the run, and no page was read then. Else the
+/// error is want of memory.
 pub fn run<C: Cpu, B: Backing>(
     alloc: Global,
     opening: Opening,
     cpus: Vec<C>,
     backing: B,
-    command: Command,
+    order: Order,
 ) -> Result<Finished<C, B>, NotFinished<B>>
     requires { IsBeginning C.meaning C.state C.room opening cpus.items }
     ensures ran { IfOk result (λ ran. IsRunOf C.meaning
         (start_from C.state opening cpus.items (B.meaning backing)) (run_of C.meaning C.state B.meaning ran)) }
-    ensures order { IfOk result (λ ran. FollowsCommand C.meaning command
+    ensures order { IfOk result (λ ran. FollowsOrder C.meaning order
         (start_from C.state opening cpus.items (B.meaning backing)) (run_of C.meaning C.state B.meaning ran)) }
     ensures refused { IfErr result (λ r.
         r.fault ≡ SwapAtStart → HasFailedAtStart (B.meaning backing) (B.meaning r.backing)) }
@@ -131,7 +128,7 @@ pub fn run<C: Cpu, B: Backing>(
         Ok(world) => world,
         Err(refused) => return Err(not_begun(refused)),
     };
-    match run_world(&mut world, command) {
+    match run_world(&mut world, order) {
         Ok(()) => Ok(written_back(world)),
         Err(AllocError) => Err(NotFinished {
             fault: RunFault::NoMemory,

@@ -1,7 +1,8 @@
 //! Runs of the top call on words and texts.
 
 use spur_io::{SinkSure, SourceSure};
-use spur_program::{Outcome, Report, spur_alone};
+use spur_program::{Outcome, spur_alone};
+use spur_report::Report;
 use spur_swap::{Backing, SwapMemory};
 use std::alloc::{AllocError, Global};
 
@@ -38,6 +39,7 @@ pub(crate) fn report_of(
     let Outcome {
         status: _,
         report,
+        verdict: _,
         backing: _,
     } = outcome;
     Ok(report)

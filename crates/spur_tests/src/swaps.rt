@@ -127,6 +127,7 @@ fn ends_by_swap<B: Backing + Drop>(
     let Outcome {
         status,
         report,
+        verdict: _,
         backing: _,
     } = outcome;
     let Some(report) = report else {

@@ -18,5 +18,5 @@ returns-in-Ok-run_world-clause-ran g c =
 
 pub returns-in-Ok-run_world-clause-order : goal.returns-in-Ok-run_world-clause-order
 returns-in-Ok-run_world-clause-order g c =
-    order_followed g.C.Cpu.meaning g.C.Cpu.state g.B.Backing.meaning c.args.command c.args.opening c.args.cpus.items (g.B.Backing.meaning c.args.backing) c.in-Ok.world c.run_world.new.world c.written_back.result
+    order_followed g.C.Cpu.meaning g.C.Cpu.state g.B.Backing.meaning c.args.order c.args.opening c.args.cpus.items (g.B.Backing.meaning c.args.backing) c.in-Ok.world c.run_world.new.world c.written_back.result
     c.in-Ok-run_world.ensures.order c.requires.count c.in-Ok.ensures.boards c.in-Ok.ensures.beginning.opening c.in-Ok.ensures.store.history c.written_back.ensures.store c.written_back.ensures.boards

@@ -1,6 +1,0 @@
-use Rattle.std.proofs.Common.{◌≡◌, drop}
-use Rattle.spur_program.specs.Words.{flag_among}
-use Rattle.spur_program.proofs.words.Flag.among.Given as goal
-
-abbrev pub invariant-loop-flag : goal.invariant-loop-flag
-invariant-loop-flag l = flag_among (drop l.flag-index l.flags) l.name ≡ flag_among l.flags l.name
