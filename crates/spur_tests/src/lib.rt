@@ -5,6 +5,8 @@
 #[cfg(test)]
 mod calls;
 #[cfg(test)]
+mod commands;
+#[cfg(test)]
 mod histories;
 #[cfg(test)]
 mod lines;
@@ -18,5 +20,7 @@ mod swaps;
 mod texts;
 #[cfg(test)]
 mod untold;
+#[cfg(test)]
+mod verdicts;
 #[cfg(test)]
 mod worlds;

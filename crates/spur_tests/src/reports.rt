@@ -356,7 +356,7 @@ fn twelve_boards_have_their_own_sums(rt: HostRuntime) -> Result<(), Fail> {
 }
 
 /// Pages of segment 0, each under a root entry of its own, and a board that halts.
-fn far_pages(alloc: Global, count: u32) -> Result<Vec<u8>, AllocError>
+pub(crate) fn far_pages(alloc: Global, count: u32) -> Result<Vec<u8>, AllocError>
     requires { count < 256 }
 {
     let mut text = Vec::new(alloc);
