@@ -388,9 +388,20 @@ const DONE: &[(&str, &[u8], &[u8])] = &[
     ("gen 00 01 1", b"\x93", LEAST),
 ];
 
-/// The step of each of twelve boards, as they are generated of the greatest number.
-const STEPS: [&[u8]; 12] = [
-    b"296", b"313", b"330", b"347", b"364", b"381", b"398", b"415", b"432", b"449", b"466", b"483",
+/// The step of each of twelve boards, as they are generated of the greatest number, and the byte of its word.
+const STEPS: [(&[u8], &[u8]); 12] = [
+    (b"296", b"0"),
+    (b"313", b"4"),
+    (b"330", b"8"),
+    (b"347", b"12"),
+    (b"364", b"16"),
+    (b"381", b"20"),
+    (b"398", b"24"),
+    (b"415", b"28"),
+    (b"432", b"32"),
+    (b"449", b"36"),
+    (b"466", b"40"),
+    (b"483", b"44"),
 ];
 
 /// Words, an input that is refused, and why.
@@ -626,11 +637,10 @@ fn bytes_of(alloc: Global, words: &str, input: &[u8]) -> Result<Vec<u8>, AllocEr
 /// The generated text of the greatest number, for twelve boards and one page.
 fn greatest(alloc: Global) -> Result<Vec<u8>, AllocError> {
     let mut text = b"; gen 4294967295 12 1\n.page 0 0 rw\n".to_vec(alloc)?;
-    for (step, board) in STEPS.iter().zip(0..12u32) {
-        let word = 4 * board;
-        let word = format!(in alloc; "{word}")?;
-        let pieces = [TO_STEP, step, TO_WORD, word.as_bytes(), TO_END];
-        text.extend_from_slice(&joined(alloc, &pieces)?)?;
+    for (step, word) in STEPS {
+        for piece in [TO_STEP, step, TO_WORD, word, TO_END] {
+            text.extend_from_slice(piece)?;
+        }
     }
     Ok(text)
 }
