@@ -1,5 +1,5 @@
 -- A schedule goes on by one pick.
-use Rattle.std.proofs.Common.{◌≡◌, ◌≢◌, ◌∙◌, ℕ, ◌+◌, ◌*◌, ◌/◌, ◌^◌, ◌<◌, ◌≤◌, ◌==◌, Bool, true, false, if◌then◌else◌, ap, sym, refl, subst, List, [], ◌∷◌, ◌++◌, length, Some, None, arith, append-nil, ⊎_elim, ne_eqb, eq-eqb}
+use Rattle.std.proofs.Common.{◌≡◌, ◌≢◌, ◌∙◌, ℕ, ◌+◌, ◌*◌, ◌/◌, ◌^◌, ◌<◌, ◌≤◌, ◌==◌, Bool, true, false, if◌then◌else◌, ap, sym, refl, subst, List, [], ◌∷◌, ◌++◌, length, Option, Some, None, arith, append-nil, ⊎_elim, ne_eqb, eq-eqb}
 use Rattle.std.specs.Prelude.{is_some, option_map, slice_get}
 use Rattle.std.specs.List.{AllByRecursion}
 use Rattle.std.proofs.Math.ListN.{set}
@@ -23,7 +23,7 @@ use Rattle.spur_core.proofs.AskFacts.{going_good, same_at}
 use Rattle.spur_core.proofs.GoodFacts.{own_other}
 use Rattle.spur_core.specs.Own.{IsUnended}
 use Rattle.spur_sched.specs.Picks.{IsPrefix, are_out, next_number, picked_board, running_boards}
-use Rattle.spur_sched.specs.Followed.{AreInOrder, ArePicks, IsPick, IsScheduled, Pick, own_in}
+use Rattle.spur_sched.specs.Followed.{AreInOrder, ArePicks, IsInLast, IsPick, IsScheduled, Pick, own_in}
 use Rattle.spur_sched.proofs.LeftFacts.{all_left, board_out, left_most, outs_same, taken_less}
 use Rattle.spur_sched.proofs.PickFacts.{none_picked}
 use Rattle.spur_sched.proofs.StepFacts.{prefix_then}
@@ -89,9 +89,14 @@ module _ {C S : Type 0} (m : Meaning S) (state : C → S) where
       let same : all_left (runners_of m state news) ≡ all_left (set (runners_of m state mids) b (runner_of m state stepped.new)) = ap all_left stepped.boards in
       omega arith
 
-  pub scheduled_then : (start x b : ℕ) (before h k : List Entry) (olds mids news : List (Board C)) → IsScheduling m state start x before h olds mids → picked_board (next_number x) (running_boards (are_out mids)) ≡ Some b
-      → (stepped : IsStepped m state b h k mids news) → stepped.old.ended ≡ None → stepped.old.retired < stepped.old.budget → IsScheduling m state start (next_number x) before k olds news
-  scheduled_then start x b before h k olds mids news was picked stepped none left =
+  -- a schedule that has gone on by a pick, whose entries are the last
+  pub record IsScheduledOn (start y : ℕ) (before h k : List Entry) (olds news : List (Board C)) : Type 0 where
+    pub now : IsScheduling m state start y before k olds news
+    pub last : (number : ℕ) → length h < length before + number → length before + number ≤ length k → IsInLast number now.entries now.picks
+
+  scheduled_on : (start x b : ℕ) (before h k : List Entry) (olds mids news : List (Board C)) → IsScheduling m state start x before h olds mids → picked_board (next_number x) (running_boards (are_out mids)) ≡ Some b
+      → (stepped : IsStepped m state b h k mids news) → stepped.old.ended ≡ None → stepped.old.retired < stepped.old.budget → IsScheduledOn start (next_number x) before h k olds news
+  scheduled_on start x b before h k olds mids news was picked stepped none left =
       let piece : List Entry = stepped.entries in
       let p : Pick = record { board = b; own = own_entries piece b; swapped = is_swapped stepped.new.ended } in
       let pick : IsPick m (next_number x) (runners_of m state mids) p (runners_of m state news) = record {
@@ -106,19 +111,62 @@ module _ {C S : Type 0} (m : Meaning S) (state : C → S) where
       let less = left_then b h k mids news stepped none left in
       let few = was.few in
       let long : length (was.picks ++ p ∷ []) ≡ length was.picks + 1 = length-append was.picks (p ∷ []) in
+      let history : k ≡ before ++ (was.entries ++ piece) = stepped.history ∙ ap (λ (es : List Entry). es ++ piece) was.history ∙ append_assoc before was.entries piece in
+      let until : length h ≡ length before + length was.entries = ap length was.history ∙ length-append before was.entries in
+      let all : length k ≡ length before + length (was.entries ++ piece) = ap length history ∙ length-append before (was.entries ++ piece) in
       record {
-        entries = was.entries ++ piece;
-        history = stepped.history ∙ ap (λ (es : List Entry). es ++ piece) was.history ∙ append_assoc before was.entries piece;
-        picks = was.picks ++ p ∷ [];
-        are = picks_then m start x (runners_of m state olds) (runners_of m state mids) (runners_of m state news) was.picks p was.are pick;
-        used = λ i. own_in-append i was.picks (p ∷ []) ∙ ap (λ (es : List Entry). es ++ own_in i (p ∷ [])) (was.used i) ∙ ap (λ (es : List Entry). own_entries was.entries i ++ es) (used_one i p piece stepped.turns refl) ∙ sym (own_entries-append was.entries piece i);
-        order = order_then was.entries was.picks p piece was.order stepped.turns refl stepped.reaches;
+        now = record {
+          entries = was.entries ++ piece;
+          history = history;
+          picks = was.picks ++ p ∷ [];
+          are = picks_then m start x (runners_of m state olds) (runners_of m state mids) (runners_of m state news) was.picks p was.are pick;
+          used = λ i. own_in-append i was.picks (p ∷ []) ∙ ap (λ (es : List Entry). es ++ own_in i (p ∷ [])) (was.used i) ∙ ap (λ (es : List Entry). own_entries was.entries i ++ es) (used_one i p piece stepped.turns refl) ∙ sym (own_entries-append was.entries piece i);
+          order = order_then was.entries was.picks p piece was.order stepped.turns refl stepped.reaches;
+          few = omega arith;
+        };
+        last = λ number low high. record {
+          front = was.picks;
+          last = p;
+          are = refl;
+          earlier = was.entries;
+          piece = piece;
+          is = refl;
+          of_front = was.order;
+          of_last = order_then [] [] p piece refl stepped.turns refl stepped.reaches;
+          behind = omega arith;
+          within = omega arith;
+        };
+      }
+
+  pub scheduled_then : (start x b : ℕ) (before h k : List Entry) (olds mids news : List (Board C)) → IsScheduling m state start x before h olds mids → picked_board (next_number x) (running_boards (are_out mids)) ≡ Some b
+      → (stepped : IsStepped m state b h k mids news) → stepped.old.ended ≡ None → stepped.old.retired < stepped.old.budget → IsScheduling m state start (next_number x) before k olds news
+  scheduled_then start x b before h k olds mids news was picked stepped none left = (scheduled_on start x b before h k olds mids news was picked stepped none left).now
+
+  -- where a probe stops the schedule at an entry of the last pick
+  stopped_at_last : (start x budget number : ℕ) (before h k : List Entry) (olds news : List (Board C)) → IsScheduledOn start x before h k olds news → length h < length before + number → length before + number ≤ length k
+      → ((i : ℕ) (b : Board C) → slice_get olds i ≡ Some b → b.budget ≡ budget) → IsScheduled m state start (length olds * (budget + 1)) (Some number) before k olds news
+  stopped_at_last start x budget number before h k olds news on low high budgets =
+      let few = on.now.few in
+      let most = left_most m state budget olds budgets in
+      record {
+        entries = on.now.entries;
+        history = on.now.history;
+        followed = record { picks = on.now.picks; last = x; are = on.now.are; ended = tt; used = on.now.used };
+        order = on.now.order;
+        stopped = on.last number low high;
         few = omega arith;
       }
 
+  pub scheduled_stopped : (start x b budget number : ℕ) (stop : Option ℕ) (before h k : List Entry) (olds mids news : List (Board C)) → IsScheduling m state start x before h olds mids → picked_board (next_number x) (running_boards (are_out mids)) ≡ Some b
+      → (stepped : IsStepped m state b h k mids news) → stepped.old.ended ≡ None → stepped.old.retired < stepped.old.budget → length h < length before + number → length before + number ≤ length k
+      → ((i : ℕ) (b : Board C) → slice_get olds i ≡ Some b → b.budget ≡ budget) → stop ≡ Some number → IsScheduled m state start (length olds * (budget + 1)) stop before k olds news
+  scheduled_stopped start x b budget number stop before h k olds mids news was picked stepped none left low high budgets is =
+      subst (λ (o : Option ℕ). IsScheduled m state start (length olds * (budget + 1)) o before k olds news) (sym is)
+      (stopped_at_last start (next_number x) budget number before h k olds news (scheduled_on start x b before h k olds mids news was picked stepped none left) low high budgets)
+
   -- where no board is picked all have ended
   pub scheduled_all : (start x budget : ℕ) (before now : List Entry) (olds news : List (Board C)) → IsScheduling m state start x before now olds news → picked_board (next_number x) (running_boards (are_out news)) ≡ None
-      → ((i : ℕ) (b : Board C) → slice_get olds i ≡ Some b → b.budget ≡ budget) → IsScheduled m state start (length olds * (budget + 1)) before now olds news
+      → ((i : ℕ) (b : Board C) → slice_get olds i ≡ Some b → b.budget ≡ budget) → IsScheduled m state start (length olds * (budget + 1)) None before now olds news
   scheduled_all start x budget before now olds news was none budgets =
       let few = was.few in
       let most = left_most m state budget olds budgets in
@@ -127,6 +175,7 @@ module _ {C S : Type 0} (m : Meaning S) (state : C → S) where
         history = was.history;
         followed = record { picks = was.picks; last = x; are = was.are; ended = ap running_boards (outs_same m state news) ∙ none_picked (running_boards (are_out news)) (next_number x / 2 ^ 33) none; used = was.used };
         order = was.order;
+        stopped = tt;
         few = omega arith;
       }
 

@@ -1,5 +1,6 @@
 pub mod PickFacts
 pub mod StepFacts
 pub mod LeftFacts
+pub mod ShowingFacts
 pub mod FollowFacts
 pub mod RoundFacts

@@ -38,6 +38,10 @@ pub on_ok_both : {A E P Q R : Type 0} (r : Result A E) → (P → Q → R) → O
 on_ok_both (Ok x) f p q = f p q
 on_ok_both (Err e) f p q = p
 
+pub on_err : {A E P : Type 0} (r : Result A E) → P → OnErr r P
+on_err (Ok x) p = tt
+on_err (Err e) p = p
+
 pub on_either : {A E P Q R : Type 0} (r : Result A E) → (P → R) → (Q → R) → OnOk r P → OnErr r Q → R
 on_either (Ok x) f g p q = f p
 on_either (Err e) f g p q = g q

@@ -1,5 +1,5 @@
 -- A schedule is followed: over boards on their ways and lists of entries, with no machine in it.
-use Rattle.std.specs.Prelude.{ℕ, ◌≡◌, ◌≤◌, Bool, false, List, [], ◌∷◌, ◌++◌, length, map, set, slice_get, Some, if◌then◌else◌, ◌==◌}
+use Rattle.std.specs.Prelude.{ℕ, ◌≡◌, ◌<◌, ◌≤◌, Bool, false, IfNone, IfSome, List, [], ◌∷◌, ◌++◌, length, map, set, slice_get, Option, Some, if◌then◌else◌, ◌==◌}
 use Rattle.std.specs.List.{AllByRecursion}
 use Rattle.spur_flat.specs.declared.entry.Entry.{Entry}
 use Rattle.spur_flat.specs.Blocks.{board_of}
@@ -46,14 +46,14 @@ module _ {S : Type 0} (m : Meaning S) where
   ArePicks x olds [] y news = (y ≡ x) × (news ≡ olds)
   ArePicks x olds (p ∷ ps) y news = Through (IsPick (next_number x) olds p) (λ mid. ArePicks (next_number x) mid ps y news)
 
-  -- From a start number the picks lead all boards from where they stood to their ends, and use up each board's own
-  -- entries.
-  pub record IsFollowed (start : ℕ) (olds : List (Runner S)) (own : ℕ → List Entry)
+  -- From a start number the picks lead the boards from where they stood to where they stand, and use up each board's
+  -- own entries. Where no probe stopped the schedule, all boards have come to their ends.
+  pub record IsFollowed (start : ℕ) (stop : Option ℕ) (olds : List (Runner S)) (own : ℕ → List Entry)
       (news : List (Runner S)) : Type 0 where
     pub picks : List Pick
     pub last : ℕ
     pub are : ArePicks start olds picks last news
-    pub ended : still_running news ≡ []
+    pub ended : IfNone stop (still_running news ≡ [])
     pub used : (b : ℕ) → own_in b picks ≡ own b
 
 -- A pick's entries are the next ones, and all of its board: those of its own, and between them those of the bus and of
@@ -73,12 +73,27 @@ abbrev pub AreInOrder : List Entry → List Pick → Type 0
 AreInOrder entries [] = entries ≡ []
 AreInOrder entries (p ∷ ps) = IsNext entries p (λ rest. AreInOrder rest ps)
 
+-- The entry with this number, from 1, is one of the last pick's: the picks before that have fewer entries.
+pub record IsInLast (number : ℕ) (entries : List Entry) (picks : List Pick) : Type 0 where
+  pub front : List Pick
+  pub last : Pick
+  pub are : picks ≡ front ++ last ∷ []
+  pub earlier : List Entry
+  pub piece : List Entry
+  pub is : entries ≡ earlier ++ piece
+  pub of_front : AreInOrder earlier front
+  pub of_last : AreInOrder piece (last ∷ [])
+  pub behind : length earlier < number
+  pub within : number ≤ length entries
+
 -- What a schedule adds to a history: it is followed, from the boards as they stood to the boards as they stand; the
--- entries that it adds are those of its picks, one behind the other; and there are at most so many picks.
-pub record IsScheduled {C S : Type 0} (m : Meaning S) (state : C → S) (start most : ℕ)
+-- entries that it adds are those of its picks, one behind the other; where a probe stopped it, at the entry with this
+-- number among those, it ends with the pick whose entry that is; and there are at most so many picks.
+pub record IsScheduled {C S : Type 0} (m : Meaning S) (state : C → S) (start most : ℕ) (stop : Option ℕ)
     (before after : List Entry) (olds news : List (Board C)) : Type 0 where
   pub entries : List Entry
   pub history : after ≡ before ++ entries
-  pub followed : IsFollowed m start (runners_of m state olds) (own_entries entries) (runners_of m state news)
+  pub followed : IsFollowed m start stop (runners_of m state olds) (own_entries entries) (runners_of m state news)
   pub order : AreInOrder entries followed.picks
+  pub stopped : IfSome stop (λ number. IsInLast number entries followed.picks)
   pub few : length followed.picks ≤ most

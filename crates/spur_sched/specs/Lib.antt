@@ -1,3 +1,4 @@
 pub mod Picks
+pub mod Shown
 pub mod Followed
 pub mod Rounds

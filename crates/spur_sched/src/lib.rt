@@ -1,15 +1,17 @@
 //! The boards of a world run to their ends, one whole instruction of a board after another.
 //!
-//! A schedule picks for each step one of the boards that have not ended, by the next of the numbers that follow a start.
-//! In rounds the boards take turns.
+//! A schedule picks for each step one of the boards that have not ended, by the next of the numbers that follow a
+//! start. The entries that the step adds are shown to probes, of which each may wish that the run stops. In rounds the
+//! boards take turns.
 #![tactic(auto)]
 
 mod picking;
 mod rounds;
 mod run;
+mod show;
 mod step;
 #[cfg(test)]
 mod tests;
 
 pub use rounds::run_rounds;
-pub use run::run_schedule;
+pub use run::{Ran, run_schedule};

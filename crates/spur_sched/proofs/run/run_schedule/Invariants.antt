@@ -2,8 +2,10 @@ use Rattle.std.proofs.Common.{◌≡◌}
 use Rattle.spur_core.specs.Boards.{LogsAreEmpty}
 use Rattle.spur_core.specs.Step.{runners_of}
 use Rattle.spur_core.specs.World.{IsGoodWorld}
+use Rattle.spur_probe.specs.Shown.{told}
 use Rattle.spur_sched.proofs.FollowFacts.{IsScheduling}
 use Rattle.spur_sched.proofs.LeftFacts.{all_left}
+use Rattle.spur_sched.proofs.ShowingFacts.{IsShowing}
 use Rattle.spur_sched.proofs.run.run_schedule.Given as goal
 
 -- the schedule up to here
@@ -13,6 +15,7 @@ invariant-loop-b g l = record {
   empty : LogsAreEmpty l.world.boards.items;
   beginning : l.world.beginning ≡ l.fn.world.beginning;
   scheduling : IsScheduling g.C.Cpu.meaning g.C.Cpu.state l.fn.start l.state l.fn.world.store.history.entries l.world.store.history.entries l.fn.world.boards.items l.world.boards.items;
+  showing : IsShowing (λ b. told ((goal.Probe-dyn g (b.vtable, b.value)).rule b.value) ((goal.Probe-dyn g (b.vtable, b.value)).reads b.value) ((goal.Probe-dyn g (b.vtable, b.value)).state b.value)) l.fn.world.store.history.entries l.world.store.history.entries l.fn.probes.items l.probes.items;
 }
 
 -- how many picks are left at most
