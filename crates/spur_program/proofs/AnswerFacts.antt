@@ -13,7 +13,7 @@ use Rattle.spur_program.specs.declared.report.Outcome.{Outcome}
 use Rattle.spur_program.specs.declared.report.Status.{Status}
 use Rattle.spur_program.specs.declared.report.Status.TheVariants as status
 use Rattle.spur_program.specs.Texts.{words_line}
-use Rattle.spur_program.specs.Accepted.{IsRead, limit_of, reads_input}
+use Rattle.spur_program.specs.Accepted.{IsRead, limit_of}
 use Rattle.spur_program.specs.Answer.{has_halted, verdict_status, IsAnswer, IsInputAnswer, IsWritten, Whole, Front, Nothing, Answered, NotRead, Wanting, NotBegun, NotRun, Ran, Way}
 use Rattle.spur_program.specs.Answer.{Assembles, Generates, Judges, Refuses, ToInput, ToWords, AnswersWords, GivesVerdict, HandsBack, HasReadFault, HasSwapFault, WasDone, EndedOtherwise, IsHeadline, IsInputRefused, IsSaid, MayGive, ReportsHalted}
 use Rattle.spur_program.proofs.WrittenFacts.{IsAnswerStatus, IsEndStatus, answers, never, none_put, put_as, run_ended, run_ends, run_fine, verdict_ends}

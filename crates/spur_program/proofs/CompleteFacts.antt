@@ -1,5 +1,5 @@
 -- What is answered to a told input that is accepted, and to one that is refused.
-use Rattle.std.proofs.Common.{◌≡◌, ◌≢◌, ◌<◌, ◌≤◌, ◌⊎◌, inl, inr, ℕ, Bool, true, false, List, [], length, Option, Some, None, Result, Ok, Err, refl, sym, ap, ◌∙◌, subst, arith}
+use Rattle.std.proofs.Common.{◌≡◌, ◌≢◌, ◌<◌, ◌⊎◌, inl, inr, ℕ, List, Option, Some, None, Ok, Err, refl, sym, ap, ◌∙◌, subst, arith}
 use Rattle.std.specs.Prelude.{IfSome, IsSome, IsSomeAnd}
 use Rattle.spur_io.specs.Told.{Gains}
 use Rattle.spur_swap.specs.Meaning.{Swap}
@@ -16,7 +16,7 @@ use Rattle.spur_words.specs.declared.task.Task.{Task}
 use Rattle.spur_words.specs.declared.task.Task.TheVariants.{Run, Check, Asm, Gen}
 use Rattle.spur_words.specs.Words.{task_of}
 use Rattle.spur_input.specs.declared.refusal.Refusal.{Refusal}
-use Rattle.spur_input.specs.Program.{IsAssembled, IsLoadable, check_limit}
+use Rattle.spur_input.specs.Program.{IsAssembled, check_limit}
 use Rattle.spur_input.specs.Judged.{IsVerdictOn}
 use Rattle.spur_input.specs.Texts.{refusal_line}
 use Rattle.spur_input.proofs.AssembleFacts.{assembled_is_not_refused, one_is_assembled, one_refusal_to_assemble}
@@ -28,7 +28,7 @@ use Rattle.spur_program.specs.declared.report.Status.TheVariants as status
 use Rattle.spur_program.specs.Texts.{verdict_line}
 use Rattle.spur_program.specs.Accepted.{IsAccepted, IsRead, IsRefused, IsWhole, ReadFront, ReadWhole, limit_of}
 use Rattle.spur_program.specs.Answer.{status_of, verdict_status, IsAnswer, IsInputAnswer, IsWritten, Whole, Front, Nothing, Answered, NotRead, Wanting, NotBegun, NotRun, Ran, Way}
-use Rattle.spur_program.specs.Answer.{Assembles, Generates, Judges, Refuses, ToInput, ToWords, AnswersRefusal, IsComplete, IsJudgement, IsStillGiven, IsSaid, PutOrWanting, ReportedOrWanting, MayGive}
+use Rattle.spur_program.specs.Answer.{Assembles, Generates, Judges, Refuses, ToInput, ToWords, AnswersRefusal, IsComplete, IsJudgement, IsStillGiven, IsSaid, PutOrWanting, ReportedOrWanting}
 use Rattle.spur_program.proofs.WrittenFacts.{read_input, same_input}
 
 -- a verdict on an input that is refused

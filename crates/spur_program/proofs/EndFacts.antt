@@ -41,7 +41,11 @@ use Rattle.spur_core.proofs.PartFacts.{good-has-its-parts}
 use Rattle.spur_core.proofs.SameFacts.{got_map}
 use Rattle.spur_program.specs.declared.run.Finished.{Finished}
 use Rattle.spur_program.specs.Headline.{AllAreOut, HasFollowedProgram, HaveEndings, IsInProgramOrder, IsOfOneMachine, IsRunOf, IsStoppedBySwap, Run}
+use Rattle.spur_probe.specs.Shown.{Told, first_stop}
+use Rattle.spur_sched.specs.declared.run.Ran.{Ran}
+use Rattle.spur_sched.specs.declared.run.Ran.TheVariants.{Done}
 use Rattle.spur_sched.specs.Followed.{IsScheduled, still_running}
+use Rattle.spur_sched.specs.Shown.{IsShown, ran_by, stop_of}
 use Rattle.spur_sched.specs.Picks.{running_from}
 use Rattle.spur_program.specs.Runs.{FollowsOrder, GoesByOrder, IsScheduledRun, first_runners, run_of, runners_from, start_from}
 
@@ -262,13 +266,25 @@ ended_out_if-Ok m state boards (Ok done) all = ended_are_out m state boards all
 ended_out_if-Ok m state boards (Err fault) all = tt
 
 pub scheduled_out_if-Ok : {C S E : Type 0} (m : Meaning S) (state : C → S) (number most : ℕ) (before after : List Entry) (olds news : List (Board C)) (result : Result (Unit {0}) E)
-    → OnOk result (IsScheduled m state number most before after olds news) → OnOk result (AllAreOut (runners_of m state news))
+    → OnOk result (IsScheduled m state number most None before after olds news) → OnOk result (AllAreOut (runners_of m state news))
 scheduled_out_if-Ok m state number most before after olds news (Ok done) is = all_are_out (runners_of m state news) is.followed.ended
 scheduled_out_if-Ok m state number most before after olds news (Err fault) is = tt
 
+-- no probes wish no stop
+no_stop : (n : ℕ) (es : List Entry) → first_stop n es [] ≡ None
+no_stop n [] = refl
+no_stop n (e ∷ es) = no_stop (n + 1) es
+
+-- so a schedule that was shown to none comes to its end
+pub shown_to_none : {A C S : Type 0} (m : Meaning S) (state : C → S) (tell : A → Told) (number most : ℕ) (ran : Ran) (entries before after : List Entry) (olds news : List (Board C)) (probes later : List A)
+    → probes ≡ [] → IsShown tell entries probes later ran → IsScheduled m state number most (stop_of ran) before after olds news → IsScheduled m state number most None before after olds news
+shown_to_none m state tell number most ran entries before after olds news probes later none shown is =
+    let done : ran ≡ Done = shown.answer ∙ ap (λ (ps : List _). ran_by (first_stop 1 entries (map tell ps))) none ∙ ap ran_by (no_stop 1 entries) in
+    subst (λ (r : Ran). IsScheduled m state number most (stop_of r) before after olds news) done is
+
 module _ {C S B : Type 0} (m : Meaning S) (state : C → S) (tells : B → Swap) where
   -- a schedule from an empty history is that of the whole run
-  scheduled_run : (number most : ℕ) (before after : List Entry) (olds news : List (Board C)) → before ≡ [] → IsScheduled m state number most before after olds news
+  scheduled_run : (number most : ℕ) (before after : List Entry) (olds news : List (Board C)) → before ≡ [] → IsScheduled m state number most None before after olds news
       → IsScheduledRun m number most (runners_of m state olds) after (runners_of m state news)
   scheduled_run number most before after olds news empty is =
       let entries : is.entries ≡ after = sym (is.history ∙ ap (λ (h : List Entry). h ++ is.entries) empty) in

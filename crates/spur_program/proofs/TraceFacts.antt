@@ -1,12 +1,10 @@
 -- The trace of a run: it may be written, and it is judged good.
-use Rattle.std.proofs.Common.{◌≡◌, ◌≢◌, ℕ, zero, suc, ◌<◌, ◌≤◌, Bool, true, Option, Some, None, Result, Ok, Err, IfOk, List, [], ◌∷◌, length, map, refl, sym, ap, ◌∙◌, subst, arith}
-use Rattle.std.specs.Prelude.{IsSome, OnOk, slice_get}
-use Rattle.std.specs.List.{All, AllByRecursion}
+use Rattle.std.proofs.Common.{◌≡◌, ℕ, zero, suc, ◌<◌, ◌≤◌, Option, Some, None, Result, Ok, Err, IfOk, List, [], ◌∷◌, length, map, refl, sym, ap, ◌∙◌, subst, arith}
+use Rattle.std.specs.Prelude.{IsSome, slice_get}
+use Rattle.std.specs.List.{All}
 use Rattle.std.proofs.lemmas.List.Elements.{All-from_recursion}
 use Rattle.std.proofs.lemmas.Option.{slice_get_within}
 use Rattle.spur_isa.specs.declared.instr.Instr.{Instr}
-use Rattle.spur_flat.specs.declared.entry.Entry.{Entry}
-use Rattle.spur_flat.specs.Formed.{IsFormed}
 use Rattle.spur_flat.specs.History.{own_entries}
 use Rattle.spur_flat.specs.StateLaws.{IsEach}
 use Rattle.spur_flat.specs.Untold.{IsLegalButValues}
@@ -30,8 +28,8 @@ use Rattle.spur_report.specs.declared.report.Report.{Report}
 use Rattle.spur_words.specs.declared.task.Order.{Order}
 use Rattle.spur_input.specs.Program.{IsLoadedOpening}
 use Rattle.spur_program.specs.declared.plain.Reported.{Reported}
-use Rattle.spur_program.specs.Headline.{HasFollowedProgram, IsOfOneMachine, IsRunOf, Run}
-use Rattle.spur_program.specs.Reports.{IsReportOf, head_of, plain_start, run_in}
+use Rattle.spur_program.specs.Headline.{HasFollowedProgram, IsOfOneMachine}
+use Rattle.spur_program.specs.Reports.{IsReportOf, head_of, plain_start}
 
 -- of the opening of a loaded program a history may be judged
 may_be_judged : (opening : Opening) → IsLoadedOpening opening → MayBeJudged opening

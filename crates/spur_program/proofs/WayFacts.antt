@@ -1,5 +1,5 @@
 -- How the ways of the top call come about.
-use Rattle.std.proofs.Common.{◌≡◌, ℕ, ◌<◌, ◌≤◌, ◌+◌, Bool, true, List, [], length, Option, Some, None, Result, Ok, Err, refl, sym, ap, ◌∙◌, subst, append-nil, arith}
+use Rattle.std.proofs.Common.{◌≡◌, ℕ, ◌<◌, ◌≤◌, ◌+◌, true, List, [], length, Option, Some, None, Ok, refl, sym, ap, ◌∙◌, subst, append-nil, arith}
 use Rattle.std.proofs.lemmas.List.{length-append}
 use Rattle.spur_io.specs.Told.{Loses, LosesAtMost, LosesCount, IsAtEnd, Gains}
 use Rattle.spur_io.specs.declared.whole.ReadAll.{ReadAll}
@@ -7,7 +7,6 @@ use Rattle.spur_io.specs.declared.whole.ReadAll.TheVariants as reading
 use Rattle.spur_swap.specs.Meaning.{Swap}
 use Rattle.spur_loader.specs.declared.opening.Opening.{Opening}
 use Rattle.spur_loader.specs.declared.opening.Options.{Options}
-use Rattle.spur_loader.specs.Opening.{opening_of}
 use Rattle.spur_report.specs.declared.report.Flags.{Flags}
 use Rattle.spur_report.specs.declared.report.Report.{Report}
 use Rattle.spur_report.specs.Texts.{report_text}
@@ -19,7 +18,7 @@ use Rattle.spur_input.specs.declared.refusal.NotAccepted.{NotAccepted}
 use Rattle.spur_input.specs.declared.refusal.NotAccepted.TheVariants as unaccepted
 use Rattle.spur_input.specs.declared.refusal.Refusal.{Refusal}
 use Rattle.spur_input.specs.declared.refusal.Refusal.TheVariants.{TooLong}
-use Rattle.spur_input.specs.Program.{IsLoadable, IsOpeningOf}
+use Rattle.spur_input.specs.Program.{IsOpeningOf}
 use Rattle.spur_input.specs.Refused.{IsLong, IsLongInput, IsLongText}
 use Rattle.spur_input.specs.Texts.{refusal_line}
 use Rattle.spur_program.specs.declared.run.RunFault.{RunFault}
@@ -30,7 +29,7 @@ use Rattle.spur_program.specs.declared.report.Status.TheVariants as status
 use Rattle.spur_program.specs.Accepted.{IsLeft, IsRefused, IsWhole, ReadFront, ReadWhole, limit_of, reads_input}
 use Rattle.spur_program.specs.Reports.{IsReportOf}
 use Rattle.spur_program.specs.Runs.{HasFailedAtStart}
-use Rattle.spur_program.specs.Answer.{InputAnswered, Said, Unsaid, Reported, Unbegun, Undone, IsBroken, IsSaid, IsSilent, IsTracedGood, IsWritten, Refuses, ToInput, fault_status, status_of, Way, Answered, NotRead, Wanting, NotBegun, NotRun, Ran}
+use Rattle.spur_program.specs.Answer.{InputAnswered, Said, Unsaid, Reported, Unbegun, Undone, IsSaid, IsSilent, IsTracedGood, IsWritten, Refuses, ToInput, fault_status, status_of, Way, Answered, NotRead, Wanting, NotBegun, NotRun, Ran}
 
 -- nothing was put, and nothing was taken
 pub gains-none : (written : Option (List ℕ)) → Gains written written []

@@ -1,5 +1,5 @@
 -- What comes of a run, over boards with any kind of processor.
-use Rattle.std.specs.Prelude.{◌≡◌, ◌≤◌, ◌<◌, ◌+◌, ◌*◌, ℕ, false, List, [], ◌∷◌, length, map}
+use Rattle.std.specs.Prelude.{◌≡◌, ◌≤◌, ◌<◌, ◌+◌, ◌*◌, ℕ, false, List, [], ◌∷◌, length, map, None}
 use Rattle.spur_swap.specs.Meaning.{Swap}
 use Rattle.spur_flat.specs.declared.entry.Entry.{Entry}
 use Rattle.spur_flat.specs.History.{own_entries}
@@ -61,7 +61,7 @@ first_runners start = runners_from start.options.budget start.segs start.firsts
 -- a board by it, which takes one whole instruction, and the steps use up each board's own entries and end with all
 -- boards. The entries of the steps stand one behind the other, and there are at most so many steps.
 pub record IsScheduledRun {S : Type 0} (m : Meaning S) (number most : ℕ) (olds : List (Runner S)) (entries : List Entry) (news : List (Runner S)) : Type 0 where
-  pub followed : IsFollowed m number olds (own_entries entries) news
+  pub followed : IsFollowed m number None olds (own_entries entries) news
   pub order : AreInOrder entries followed.picks
   pub few : length followed.picks ≤ most
 
@@ -75,5 +75,5 @@ FollowsOrder m (Schedule number) start run =
 abbrev pub GoesByOrder : {C B S : Type 0} → Meaning S → (C → S) → Order → World C B → World C B → Type 0
 GoesByOrder m state Rounds old new = Unit {0}
 GoesByOrder m state (Schedule number) old new =
-    IsScheduled m state number (length old.boards.items * (old.beginning.opening.value.options.budget + 1))
+    IsScheduled m state number (length old.boards.items * (old.beginning.opening.value.options.budget + 1)) None
     old.store.history.entries new.store.history.entries old.boards.items new.boards.items

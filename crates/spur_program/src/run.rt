@@ -88,8 +88,30 @@ fn written_back<C: Cpu, B: Backing>(world: World<C, B>) -> Finished<C, B>
     Finished { boards, store }
 }
 
+/// Runs the boards of a world to their ends by the schedule with this start. Its entries are shown to no probes.
+fn run_scheduled<C: Cpu, B: Backing>(
+    alloc: Global,
+    world: &mut World<C, B>,
+    start: u64,
+) -> Result<(), AllocError>
+    requires good { IsGoodWorld C.meaning C.state C.room B.meaning world.old }
+    requires empty { LogsAreEmpty world.old.boards.items }
+    ensures good { IsGoodWorld C.meaning C.state C.room B.meaning world.new }
+    ensures beginning { world.new.beginning ≡ world.old.beginning }
+    ensures empty { OnOk result (LogsAreEmpty world.new.boards.items) }
+    ensures order { OnOk result (GoesByOrder C.meaning C.state (Order.Schedule start) world.old world.new) }
+{
+    let mut probes = Vec::new(alloc);
+    let _ran = run_schedule(world, start, &mut probes)?;
+    Ok(())
+}
+
 /// Runs the boards of a world to their ends, in this order.
-fn run_world<C: Cpu, B: Backing>(world: &mut World<C, B>, order: Order) -> Result<(), AllocError>
+fn run_world<C: Cpu, B: Backing>(
+    alloc: Global,
+    world: &mut World<C, B>,
+    order: Order,
+) -> Result<(), AllocError>
     requires good { IsGoodWorld C.meaning C.state C.room B.meaning world.old }
     requires empty { LogsAreEmpty world.old.boards.items }
     ensures good { IsGoodWorld C.meaning C.state C.room B.meaning world.new }
@@ -100,7 +122,7 @@ fn run_world<C: Cpu, B: Backing>(world: &mut World<C, B>, order: Order) -> Resul
 {
     match order {
         Order::Rounds => run_rounds(world),
-        Order::Schedule { start } => run_schedule(world, start),
+        Order::Schedule { start } => run_scheduled(alloc, world, start),
     }
 }
 
@@ -128,7 +150,7 @@ pub fn run<C: Cpu, B: Backing>(
         Ok(world) => world,
         Err(refused) => return Err(not_begun(refused)),
     };
-    match run_world(&mut world, order) {
+    match run_world(alloc, &mut world, order) {
         Ok(()) => Ok(written_back(world)),
         Err(AllocError) => Err(NotFinished {
             fault: RunFault::NoMemory,

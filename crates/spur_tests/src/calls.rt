@@ -13,7 +13,7 @@ use spur_core::World;
 use spur_cpu::{Cpu, PlainCpu};
 use spur_flat::AccessKind::{Load, Store};
 use spur_flat::FaultKind::{Dirty, Missing};
-use spur_sched::run_schedule;
+use spur_sched::{Ran, run_schedule};
 use spur_snoop::BlockState::{OwnedExclusive, OwnedNonExclusive, UnOwned};
 use spur_swap::{Backing, SwapMemory, SwapTest};
 use std::test::Fail;
@@ -528,7 +528,9 @@ const SUM_LINES: &[(u32, Line)] = &[
 #[test]
 fn a_schedule_comes_to_its_end(rt: HostRuntime) -> Result<(), Fail> {
     let mut world = world_of(rt.alloc(), SUM, SwapMemory::new(rt.alloc()))?;
-    run_schedule(&mut world, 1)?;
+    let mut probes = Vec::new(rt.alloc());
+    let ran = run_schedule(&mut world, 1, &mut probes)?;
+    assert_eq!(rt; ran, Ran::Done);
     assert!(rt; has_grown(world.history(), 0, SUM_LINES));
     let (_, boards) = world.into_parts();
     for board in &boards {

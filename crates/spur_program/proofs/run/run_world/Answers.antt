@@ -8,6 +8,6 @@ returns-in-Rounds-clause-ended g c = ended_out_if-Ok g.C.Cpu.meaning g.C.Cpu.sta
 pub returns-in-Schedule-clause-ended : goal.returns-in-Schedule-clause-ended
 returns-in-Schedule-clause-ended g c =
     let old = c.args.world.now in
-    let new = c.run_schedule.new.world in
+    let new = c.run_scheduled.new.world in
     scheduled_out_if-Ok g.C.Cpu.meaning g.C.Cpu.state c.in-Schedule.start (length old.boards.items * (old.beginning.opening.value.options.budget + 1)) old.store.history.entries new.store.history.entries
-    old.boards.items new.boards.items c.run_schedule.result c.run_schedule.ensures.followed
+    old.boards.items new.boards.items c.run_scheduled.result c.run_scheduled.ensures.order
