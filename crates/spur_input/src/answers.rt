@@ -22,7 +22,11 @@ use std::alloc::Global;
 /// An input whose first byte is 93 in hexadecimal is read as an object, and any other as a text. It has at most
 /// 1,048,576 bytes. It is refused for its first fault, and else for the load fault that applies to its unit. `NoMemory`
 /// where memory is wanting.
-pub fn program_opening(alloc: Global, input: &[u8], options: &Options) -> Result<Opening, NotAccepted>
+pub fn program_opening(
+    alloc: Global,
+    input: &[u8],
+    options: &Options,
+) -> Result<Opening, NotAccepted>
     requires within { length input.now ≤ program_limit }
     requires options { IsOptions options.now }
     requires ahead { options.now.ahead ≡ 0 }
