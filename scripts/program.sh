@@ -1,4 +1,4 @@
-# What spur, prove, examples/compare and .ci/run share: where the program is, what it is made from, and whether the one that
+# What spur, prove, the scripts of examples, bench, scripts and tools, and .ci/run share: where the program is, what it is made from, and whether the one that
 # is there was proved from these very sources.
 #
 # What was proved is told by a note beside the program, and by no file's time. It has three lines: the checksum of the sources, the

@@ -1,4 +1,5 @@
--- Accesses and faults that may change places: those of different boards that touch no word of each other.
+-- Accesses and faults that may change places: those of different boards of which none writes a word that the other
+-- reads or writes.
 use Rattle.std.specs.Prelude.{ℕ, ◌≢◌, ◌/◌, ◌^◌, ◌<◌, ⊤, Option, Some, None, List}
 use Rattle.std.specs.List.{AllByRecursion}
 use Rattle.spur_flat.specs.declared.entry.Entry.{Entry}

@@ -1,9 +1,10 @@
 //! The law of commuting: what a board does alone may be put before what other boards did alone.
 //!
 //! A board that goes on alone logs accesses and their faults, and touches only words of blocks that its own cache has:
-//! to be written, blocks that no other cache has. So the entries of two boards' logs touch no word of each other, and
-//! may change places. The logs stand behind the history in board order, and an entry that is put at the end of one of
-//! them stands before the logs of the boards behind it: by this law the whole is carried as if the entry were the last.
+//! to be written, blocks that no other cache has. So no entry of one board's log writes a word that one of another's
+//! reads or writes, and they may change places. The logs stand behind the history in board order, and an entry that is
+//! put at the end of one of them stands before the logs of the boards behind it: by this law the whole is carried as if
+//! the entry were the last.
 //! The laws are said with the swap told and untold, over flat memory, tags and open entries alone; each is shown by a
 //! function that does nothing.
 #![tactic(auto)]

@@ -26,3 +26,5 @@ pub mod PutFacts
 pub mod OwnEventFacts
 pub mod OwnStepFacts
 pub mod VecFacts
+pub mod SentFacts
+pub mod InstructionFacts

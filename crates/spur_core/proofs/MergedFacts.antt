@@ -1,4 +1,4 @@
--- A merge keeps a good world.
+-- A merge keeps a good world, and so does more room in the history.
 use Rattle.std.proofs.Common.{◌≡◌, ◌∙◌, ℕ, suc, true, false, ◌+◌, ◌≤◌, ap, sym, refl, subst, List, [], ◌∷◌, ◌++◌, length, map, Option, Bool, if◌then◌else◌, arith, append-nil}
 use Rattle.std.specs.Prelude.{filter}
 use Rattle.std.specs.List.{AllByRecursion}
@@ -90,5 +90,32 @@ module _ {C S : Type 0} (m : Meaning S) (state : C → S) (spare : C → ℕ) wh
         });
         swaps = subst (λ (z : ℕ × ℕ). z.0 + start.faults ≤ z.1) (λ k. (sym (ap swap_count is ∙ swaps_same boards) k, sym (ap (λ (s : Store B). (meaning s.backing).faults) same) k)) good.swaps;
         begins = subst (IsStart m start) (sym count) good.begins;
+        settings = record { ahead = ap (λ (s : Store B). s.ahead) same ∙ good.settings.ahead };
+      }
+
+  pub roomier_good : {B : Type 0} (meaning : B → Swap) (start : Start S) (store after : Store B) (boards : List (Board C)) → IsGood m state spare meaning start store boards
+      → after.history.entries ≡ store.history.entries → after ≡ record store { history = after.history } → IsGood m state spare meaning start after boards
+  roomier_good {B} meaning start store after boards good kept same =
+      let all : whole after boards ≡ whole store boards = ap (λ (es : List Entry). es ++ joined_logs (logs_of boards)) kept in
+      let w : View = view_in meaning store boards in
+      let v : View = view_in meaning after boards in
+      let shows : ShowsSame w v = record {
+        caches = refl;
+        memory = ap (λ (s : Store B). s.phys) same;
+        shares = record {
+          frames = ap (λ (s : Store B). s.frames) same;
+          pages = ap (λ (s : Store B). (meaning s.backing).pages) same;
+          slots = ap (λ (s : Store B). (meaning s.backing).slots) same;
+        };
+      } in
+      record {
+        history = led_same (opened_state start) w v (whole store boards) (whole after boards) shows all good.history;
+        formed = subst (λ (es : List Entry). AllByRecursion (IsFormed (length boards)) es) (sym all) good.formed;
+        stands = stands_same start.flat w v shows good.stands;
+        table = subst AreFrames (sym shows.shares.frames) good.table;
+        logs = good.logs;
+        programs = subst (λ (es : List Entry). FollowPrograms m state spare start es boards) (sym all) good.programs;
+        swaps = subst (λ (n : ℕ). swap_count boards + start.faults ≤ n) (sym (ap (λ (s : Store B). (meaning s.backing).faults) same)) good.swaps;
+        begins = good.begins;
         settings = record { ahead = ap (λ (s : Store B). s.ahead) same ∙ good.settings.ahead };
       }

@@ -3,6 +3,7 @@ pub mod Start
 pub mod Programs
 pub mod Good
 pub mod World
+pub mod Divided
 pub mod Tally
 pub mod Approach
 pub mod Step

@@ -11,10 +11,10 @@ use Rattle.spur_board.specs.declared.turn.Turn.{Turn}
 use Rattle.spur_board.specs.declared.turn.Turn.TheVariants as turn
 use Rattle.spur_board.specs.Boards.{IsSound}
 use Rattle.spur_board.specs.Own.{HasTurned, IsOwnStep, OwnEvent}
-use Rattle.spur_core.specs.Boards.{LogsAreEmpty, whole}
+use Rattle.spur_core.specs.Boards.{AreBoardLogs, LogsAreEmpty, whole}
 use Rattle.spur_core.specs.Good.{IsGood}
 use Rattle.spur_core.specs.Start.{Start}
-use Rattle.spur_core.specs.Step.{IsStepped}
+use Rattle.spur_core.specs.Step.{HasTakenInstruction, IsStepped}
 
 -- the board needs the bus
 abbrev pub WantsBus : Turn → Type 0
@@ -76,3 +76,9 @@ module _ {C S : Type 0} (m : Meaning S) (state : C → S) (spare : C → ℕ) wh
   EventIsStepped B = (store : Store B) (boards : List (Board C)) (b : ℕ) (x y : Board C) → LogsAreEmpty boards
       → slice_get boards b ≡ Some x → x.number ≡ b → OwnEvent m state spare x y
       → IsStepped m state b (whole store boards) (whole store (slice_set boards b y)) boards (slice_set boards b y)
+
+  -- and whatever entries of their boards the logs hold, it is one whole instruction of board b over the boards' own entries
+  abbrev pub EventsTakeInstructions : Type 0 → Type 0
+  EventsTakeInstructions B = (store : Store B) (boards : List (Board C)) (b : ℕ) (x y : Board C) → AreBoardLogs boards
+      → slice_get boards b ≡ Some x → x.number ≡ b → OwnEvent m state spare x y
+      → HasTakenInstruction m state b (whole store boards) (whole store (slice_set boards b y)) boards (slice_set boards b y)

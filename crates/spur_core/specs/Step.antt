@@ -1,5 +1,5 @@
 -- A board takes one whole instruction: over courses and lists of entries, with no machine in it.
-use Rattle.std.specs.Prelude.{ℕ, ◌≡◌, ◌||◌, Bool, true, false, List, [], ◌∷◌, ◌++◌, is_some, map, set, slice_get, Some, None}
+use Rattle.std.specs.Prelude.{ℕ, ◌≡◌, ◌≢◌, ◌||◌, Bool, true, false, List, [], ◌∷◌, ◌++◌, is_some, map, set, slice_get, Some, None}
 use Rattle.std.specs.List.{AllByRecursion}
 use Rattle.spur_flat.specs.declared.entry.Entry.{Entry}
 use Rattle.spur_flat.specs.Blocks.{board_of}
@@ -64,6 +64,23 @@ module _ {C S : Type 0} (m : Meaning S) (state : C → S) where
     pub takes : TakesInstruction m (runner_of old) (own_entries entries b) (runner_of new)
     pub reaches : is_swapped new.ended ≡ false → EndsWithAnswer b entries
     pub boards : runners_of news ≡ set (runners_of olds) b (runner_of new)
+
+  -- Board b has taken one whole instruction, wherever its entries stand: behind the board's own entries there are these,
+  -- which carry it on, and no other board goes on or has any more.
+  pub record HasTakenInstruction (b : ℕ) (before after : List Entry) (olds news : List (Board C)) : Type 0 where
+    pub own : List Entry
+    pub mine : own_entries after b ≡ own_entries before b ++ own
+    pub others : (i : ℕ) → i ≢ b → own_entries after i ≡ own_entries before i
+    pub old : Board C
+    pub there : slice_get olds b ≡ Some old
+    pub new : Board C
+    pub takes : TakesInstruction m (runner_of old) own (runner_of new)
+    pub boards : runners_of news ≡ set (runners_of olds) b (runner_of new)
+
+  -- so it has where its entries are the last
+  abbrev pub StepsTakeInstructions : Type 0
+  StepsTakeInstructions = (b : ℕ) (before after : List Entry) (olds news : List (Board C)) → IsStepped b before after olds news
+      → HasTakenInstruction b before after olds news
 
   -- where a board has not ended and wants a local instruction, its step leaves the history as it was
   abbrev pub LocalStepsLeaveTheHistory : Type 0

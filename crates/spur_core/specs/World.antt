@@ -1,5 +1,6 @@
--- A world: that it is good, and what a merge of its logs makes of it.
-use Rattle.std.specs.Prelude.{ℕ, ◌≡◌, map}
+-- A world: that it is good, what a merge of its logs makes of it, and what more room does.
+use Rattle.std.specs.Prelude.{ℕ, ◌≡◌, ◌≤◌, List, ◌++◌, map}
+use Rattle.spur_flat.specs.declared.entry.Entry.{Entry}
 use Rattle.spur_cpu.specs.Meaning.{Meaning}
 use Rattle.spur_swap.specs.Meaning.{Swap}
 use Rattle.spur_core.specs.declared.world.Beginning.{Beginning}
@@ -27,3 +28,15 @@ pub record IsMerged {C B : Type 0} (old new : World C B) : Type 0 where
   pub boards : new.boards.items ≡ map emptied old.boards.items
   pub history : new.store.history.entries ≡ whole old.store old.boards.items
   pub store : new.store ≡ record old.store { history = new.store.history }
+
+-- the history has no less spare room than it had; nothing else has changed
+pub record IsRoomier {C B : Type 0} (old new : World C B) : Type 0 where
+  pub room : old.store.history.room ≤ new.store.history.room
+  pub only : new ≡ record old {
+    store = record old.store { history = record old.store.history { room = new.store.history.room } };
+  }
+
+-- a history goes on from another
+pub record IsPrefix (before after : List Entry) : Type 0 where
+  pub more : List Entry
+  pub is : after ≡ before ++ more

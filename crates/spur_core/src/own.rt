@@ -3,7 +3,7 @@
 ghost use Rattle.std.specs.Prelude.{◌≡◌, ◌<◌, ◌≤◌, length};
 ghost use Rattle.spur_core.specs.Boards.{LogsAreEmpty, whole};
 ghost use Rattle.spur_core.specs.Own.{HasTurnedAt, IsUnended, WantsBus};
-ghost use Rattle.spur_core.specs.Step.{IsStepped};
+ghost use Rattle.spur_core.specs.Step.{HasTakenInstruction, IsStepped};
 ghost use Rattle.spur_core.specs.World.{IsGoodWorld};
 
 use crate::world::World;
@@ -17,8 +17,9 @@ impl<C: Cpu, B: Backing> World<C, B> {
     /// other board, and nothing is asked of the other boards' logs. It takes no memory.
     ///
     /// A turn of at most one instruction leaves the world as it was where the board needs the bus. Where it does not, and
-    /// it had not ended and all logs were empty, the board takes one whole instruction: a local one, with no entry; or an
-    /// access that hits, or a fault of its own cache, with its one entry in the board's log.
+    /// it had not ended, the board takes one whole instruction: a local one, with no entry; or an access that hits, or a
+    /// fault of its own cache, with its one entry at the end of the board's log. Where all logs were empty, that entry is
+    /// the last of the history with the logs; else those of the boards behind it stand behind it.
     pub fn own(&mut self, b: u32, at_most: u32) -> Turn
         requires good { IsGoodWorld C.meaning C.state C.room B.meaning self.old }
         requires board { b < length self.old.boards.items }
@@ -32,6 +33,9 @@ impl<C: Cpu, B: Backing> World<C, B> {
         ensures stepped { at_most ≡ 1 → (WantsBus result → ⊥) → IsUnended self.old.boards.items b
             → LogsAreEmpty self.old.boards.items
             → IsStepped C.meaning C.state b (whole self.old.store self.old.boards.items)
+            (whole self.new.store self.new.boards.items) self.old.boards.items self.new.boards.items }
+        ensures instruction { at_most ≡ 1 → (WantsBus result → ⊥) → IsUnended self.old.boards.items b
+            → HasTakenInstruction C.meaning C.state b (whole self.old.store self.old.boards.items)
             (whole self.new.store self.new.boards.items) self.old.boards.items self.new.boards.items }
     {
         self.boards[b as usize].own_turn(at_most)

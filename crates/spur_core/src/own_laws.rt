@@ -1,7 +1,8 @@
 //! Laws of own steps in a world, each shown by a function that does nothing.
 
-ghost use Rattle.spur_core.specs.Own.{EventIsStepped, EventKeepsGood, EventLogsOneAnswer, GoodBoardsAreSound, GoodRests};
-ghost use Rattle.spur_core.specs.Own.{OwnStepKeepsGood};
+ghost use Rattle.spur_core.specs.Own.{EventsTakeInstructions, EventIsStepped, EventKeepsGood, EventLogsOneAnswer};
+ghost use Rattle.spur_core.specs.Own.{GoodBoardsAreSound, GoodRests, OwnStepKeepsGood};
+ghost use Rattle.spur_core.specs.Step.{StepsTakeInstructions};
 
 use spur_cpu::Cpu;
 use spur_swap::Backing;
@@ -16,8 +17,11 @@ pub fn own_steps_keep_good<C: Cpu, B: Backing>()
 {}
 
 /// What an event logs is nothing, or the one entry that answers the board's access. Where all logs are empty, it is one
-/// whole instruction over the history with the logs.
+/// whole instruction over the history with the logs; and it is one over the boards' own entries whatever entries of
+/// their boards the logs hold. A step on the bus is one over these too.
 pub fn own_events_are_steps<C: Cpu, B: Backing>()
     ensures one { EventLogsOneAnswer C.meaning C.state C.room }
     ensures stepped { EventIsStepped C.meaning C.state C.room B }
+    ensures instruction { EventsTakeInstructions C.meaning C.state C.room B }
+    ensures steps { StepsTakeInstructions C.meaning C.state }
 {}

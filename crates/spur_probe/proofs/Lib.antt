@@ -1,1 +1,3 @@
 pub mod ShownFacts
+pub mod MovedFacts
+pub mod StopFacts

@@ -1,5 +1,5 @@
 -- The first probes were shown an entry, and none of them wished a stop.
-use Rattle.std.proofs.Common.{◌≡◌, ℕ, zero, suc, ◌+◌, ◌<◌, Bool, true, false, List, [], ◌∷◌, length, map, set, sym, refl, ap, ◌∙◌, subst, arith, Some, None, if◌then◌else◌}
+use Rattle.std.proofs.Common.{◌≡◌, ℕ, zero, suc, ◌+◌, Bool, true, false, List, [], ◌∷◌, length, map, set, sym, refl, ap, ◌∙◌, subst, arith, Some, None, if◌then◌else◌}
 use Rattle.std.specs.Prelude.{slice_get}
 use Rattle.std.specs.List.{position_from}
 use Rattle.std.proofs.lemmas.List.{map-set}
@@ -16,7 +16,7 @@ IsShown e (suc i) [] us = ⊥
 IsShown e (suc i) (t ∷ ts) [] = ⊥
 IsShown e (suc i) (t ∷ ts) (u ∷ us) = (t ≡ moved e u) × (stops e u ≡ false) × IsShown e i ts us
 
-some_same : {x y : Told} → Some x ≡ Some y → x ≡ y
+pub some_same : {x y : Told} → Some x ≡ Some y → x ≡ y
 some_same e = cc
 
 halted : (e : Entry) (k : ℕ) (t : Told) (ts : List Told) → stops e t ≡ true → (moved e t ∷ ts ≡ after_entry e (t ∷ ts)) × (position_from (stops e) k (t ∷ ts) ≡ Some k)
@@ -58,7 +58,7 @@ pub record Shown {A : Type 0} (f : A → Told) (e : Entry) (i : ℕ) (xs us : Li
   pub is : IsShown e i (map f xs) (map f us)
 
 module _ {A : Type 0} (f : A → Told) (e : Entry) where
-  read : (xs : List A) (i : ℕ) (x : A) → slice_get xs i ≡ Some x → slice_get (map f xs) i ≡ Some (f x)
+  pub read : (xs : List A) (i : ℕ) (x : A) → slice_get xs i ≡ Some x → slice_get (map f xs) i ≡ Some (f x)
   read [] i x h = absurd (cc)
   read (y ∷ ys) zero x h = ap (λ (a : A). Some (f a)) (inner h)
     where

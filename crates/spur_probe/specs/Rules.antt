@@ -1,5 +1,5 @@
 -- What probes mean: a state, which is a list of numbers, and a rule.
-use Rattle.std.specs.Prelude.{ℕ, ◌+◌, ◌-◌, ◌/◌, ◌^◌, ◌==◌, min, Bool, true, false, if◌then◌else◌, List, [], ◌∷◌, Option, Some, None}
+use Rattle.std.specs.Prelude.{ℕ, ◌+◌, ◌-◌, ◌/◌, ◌^◌, ◌==◌, min, Bool, false, if◌then◌else◌, List, [], ◌∷◌, Option, Some, None}
 use Rattle.spur_addr.specs.Address.{block_of}
 use Rattle.spur_flat.specs.declared.entry.Entry.{Entry}
 use Rattle.spur_flat.specs.declared.entry.Entry.TheVariants.{Claim, Store}
@@ -30,11 +30,11 @@ counts state entry = (raised (first_number state) ∷ [], GoOn)
 -- ---- an address is watched
 
 -- an address, and what is counted or kept of it
-pub record Watched : Type 0 where
+pub record AtAddress : Type 0 where
   pub at : ℕ
   pub number : ℕ
 
-abbrev pub pair_of : Watched → List ℕ
+abbrev pub pair_of : AtAddress → List ℕ
 pair_of w = w.at ∷ w.number ∷ []
 
 -- the entry is a claim of the block of an address

@@ -22,9 +22,15 @@ impl Model for CountProbe {
 }
 
 impl CountProbe {
+    ghost use Rattle.std.specs.Prelude.{[], ◌∷◌};
+    ghost use Rattle.spur_probe.specs.Rules.{counts, first_number};
+
     /// A probe that has seen nothing.
     pub fn new() -> CountProbe
-        ensures { result ≡ 0 }
+        ensures seen { result ≡ 0 }
+        ensures kept { ⟦<CountProbe as Probe>⟧.kept result ≡ 0 ∷ [] }
+        ensures rule { ⟦<CountProbe as Probe>⟧.rule result ≡ counts }
+        ensures reading { ⟦<CountProbe as Probe>⟧.reads result ≡ first_number }
     {
         CountProbe { seen: 0 }
     }
@@ -34,7 +40,7 @@ impl Probe for CountProbe {
     ghost use Rattle.std.specs.Prelude.{[], ◌∷◌};
     ghost use Rattle.spur_probe.specs.Rules.{counts, first_number};
 
-    ghost state = { λ seen. seen ∷ [] };
+    ghost kept = { λ seen. seen ∷ [] };
 
     ghost rule = { λ _. counts };
 

@@ -17,17 +17,23 @@ pub struct LastProbe {
 }
 
 impl Model for LastProbe {
-    ghost use Rattle.spur_probe.specs.Rules.{Watched};
+    ghost use Rattle.spur_probe.specs.Rules.{AtAddress};
 
-    ghost Value = { Watched };
+    ghost Value = { AtAddress };
 
     ghost view = { λ p. record { at = p.at; number = p.value } };
 }
 
 impl LastProbe {
+    ghost use Rattle.std.specs.Prelude.{[], ◌∷◌};
+    ghost use Rattle.spur_probe.specs.Rules.{follows, second_number};
+
     /// A probe for the word of a global byte address, which was shown no store to it.
     pub fn new(at: GlobalAddr) -> LastProbe
-        ensures { result ≡ record { at = at; number = 0 } }
+        ensures value { result ≡ record { at = at; number = 0 } }
+        ensures kept { ⟦<LastProbe as Probe>⟧.kept result ≡ at ∷ 0 ∷ [] }
+        ensures rule { ⟦<LastProbe as Probe>⟧.rule result ≡ follows }
+        ensures reading { ⟦<LastProbe as Probe>⟧.reads result ≡ second_number }
     {
         LastProbe { at, value: 0 }
     }
@@ -36,7 +42,7 @@ impl LastProbe {
 impl Probe for LastProbe {
     ghost use Rattle.spur_probe.specs.Rules.{follows, pair_of, second_number};
 
-    ghost state = { pair_of };
+    ghost kept = { pair_of };
 
     ghost rule = { λ _. follows };
 

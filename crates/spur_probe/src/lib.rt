@@ -5,6 +5,8 @@
 
 mod count;
 mod last;
+mod laws;
+mod lines;
 mod probe;
 mod show;
 #[cfg(test)]
@@ -13,6 +15,8 @@ mod watch;
 
 pub use count::CountProbe;
 pub use last::LastProbe;
+pub use laws::probes_are_shown_up_to_a_stop;
+pub use lines::lines_of;
 pub use probe::{Probe, ProbeLine, Wish};
-pub use show::{Stop, show_entries};
+pub use show::{StopAt, show_all, show_entries};
 pub use watch::WatchProbe;

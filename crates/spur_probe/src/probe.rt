@@ -27,7 +27,7 @@ pub trait Probe: Drop {
 
     /// What the probe has kept of the entries that it was shown, as a list of numbers. Where it keeps an address, that is
     /// one of them.
-    ghost state: { Self → List ℕ };
+    ghost kept: { Self → List ℕ };
 
     /// The state after an entry, and the probe's wish, by the state before. No call changes it.
     ghost rule: { Self → Rule };
@@ -37,11 +37,11 @@ pub trait Probe: Drop {
 
     /// Shows the probe one entry. Takes no memory.
     fn saw(&mut self, entry: &Entry) -> Wish
-        ensures moved { (state self.new, result) ≡ rule self.old (state self.old) entry.now }
+        ensures moved { (kept self.new, result) ≡ rule self.old (kept self.old) entry.now }
         ensures same_rule { rule self.new ≡ rule self.old }
         ensures same_reading { reads self.new ≡ reads self.old };
 
     /// What a report tells of the probe.
     fn line(&self) -> ProbeLine
-        ensures { result.number ≡ reads self.now (state self.now) };
+        ensures { result.number ≡ reads self.now (kept self.now) };
 }

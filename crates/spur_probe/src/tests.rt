@@ -1,6 +1,6 @@
 //! A history by hand, shown to boxed probes.
 
-use crate::{CountProbe, LastProbe, Probe, Stop, WatchProbe, show_entries};
+use crate::{CountProbe, LastProbe, Probe, StopAt, WatchProbe, lines_of, show_all, show_entries};
 use spur_addr::GlobalAddr;
 use spur_flat::Entry;
 use std::alloc::{AllocError, Global};
@@ -14,8 +14,8 @@ fn at(number: u64) -> Result<GlobalAddr, Fail> {
 /// The numbers that probes tell.
 fn numbers(alloc: Global, probes: &[Box<dyn Probe>]) -> Result<Vec<u64>, AllocError> {
     let mut numbers = Vec::new(alloc);
-    for probe in probes {
-        numbers.push(probe.line().number)?;
+    for line in lines_of(alloc, probes)? {
+        numbers.push(line.number)?;
     }
     Ok(numbers)
 }
@@ -72,7 +72,7 @@ fn entries_are_shown_up_to_the_first_wish(rt: HostRuntime) -> Result<(), Fail> {
 
     // the probe behind the one that wishes the stop is not shown the entry, and none is shown the next
     let stop = show_entries(&mut probes, &history[4..]);
-    assert_eq!(rt; stop, Some(Stop { entry: 0, probe: 2 }));
+    assert_eq!(rt; stop, Some(StopAt { entry: 0, probe: 2 }));
     assert_eq!(rt;
         numbers(alloc, probes.as_slice())?.as_slice(),
         [5, 7, 1, 4].as_slice()
@@ -83,6 +83,13 @@ fn entries_are_shown_up_to_the_first_wish(rt: HostRuntime) -> Result<(), Fail> {
     assert_eq!(rt;
         numbers(alloc, probes.as_slice())?.as_slice(),
         [6, 9, 1, 5].as_slice()
+    );
+
+    // where no wish is heeded, all are shown all
+    show_all(&mut probes, history);
+    assert_eq!(rt;
+        numbers(alloc, probes.as_slice())?.as_slice(),
+        [12, 9, 2, 11].as_slice()
     );
     Ok(())
 }

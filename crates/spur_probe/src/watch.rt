@@ -9,8 +9,8 @@ use spur_flat::Entry;
 use std::marker::Model;
 
 /// Wishes a stop at each claim of the block of an address, by any board. Its number is the count of such claims that it was
-/// shown, up to 2^64 - 1. A block that is brought in for writing is never claimed, and so not stopped at. Contracts see the
-/// address and the count.
+/// shown, up to 2^64 - 1. A block that is brought in for writing is not claimed by that, and so not stopped at then.
+/// Contracts see the address and the count.
 #[derive(Drop)]
 pub struct WatchProbe {
     at: GlobalAddr,
@@ -18,17 +18,23 @@ pub struct WatchProbe {
 }
 
 impl Model for WatchProbe {
-    ghost use Rattle.spur_probe.specs.Rules.{Watched};
+    ghost use Rattle.spur_probe.specs.Rules.{AtAddress};
 
-    ghost Value = { Watched };
+    ghost Value = { AtAddress };
 
     ghost view = { λ p. record { at = p.at; number = p.claims } };
 }
 
 impl WatchProbe {
+    ghost use Rattle.std.specs.Prelude.{[], ◌∷◌};
+    ghost use Rattle.spur_probe.specs.Rules.{second_number, watches};
+
     /// A probe for the block of a global byte address, which was shown no claim of it.
     pub fn new(at: GlobalAddr) -> WatchProbe
-        ensures { result ≡ record { at = at; number = 0 } }
+        ensures claims { result ≡ record { at = at; number = 0 } }
+        ensures kept { ⟦<WatchProbe as Probe>⟧.kept result ≡ at ∷ 0 ∷ [] }
+        ensures rule { ⟦<WatchProbe as Probe>⟧.rule result ≡ watches }
+        ensures reading { ⟦<WatchProbe as Probe>⟧.reads result ≡ second_number }
     {
         WatchProbe { at, claims: 0 }
     }
@@ -37,7 +43,7 @@ impl WatchProbe {
 impl Probe for WatchProbe {
     ghost use Rattle.spur_probe.specs.Rules.{pair_of, second_number, watches};
 
-    ghost state = { pair_of };
+    ghost kept = { pair_of };
 
     ghost rule = { λ _. watches };
 

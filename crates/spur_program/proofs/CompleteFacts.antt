@@ -1,8 +1,9 @@
 -- What is answered to a told input that is accepted, and to one that is refused.
-use Rattle.std.proofs.Common.{◌≡◌, ◌≢◌, ◌<◌, ◌⊎◌, inl, inr, ℕ, List, Option, Some, None, Ok, Err, refl, sym, ap, ◌∙◌, subst, arith}
+use Rattle.std.proofs.Common.{◌≡◌, ◌≢◌, ◌<◌, ◌⊎◌, inl, inr, ℕ, List, Option, Some, None, Result, Ok, Err, refl, sym, ap, ◌∙◌, subst, arith}
 use Rattle.std.specs.Prelude.{IfSome, IsSome, IsSomeAnd}
 use Rattle.spur_io.specs.Told.{Gains}
 use Rattle.spur_swap.specs.Meaning.{Swap}
+use Rattle.spur_probe.specs.Shown.{Told}
 use Rattle.spur_object.specs.Fields.{object_bytes}
 use Rattle.spur_object.specs.declared.unit.Unit.{Unit as Program}
 use Rattle.spur_loader.specs.declared.opening.Options.{Options}
@@ -14,7 +15,6 @@ use Rattle.spur_gen.specs.Text.{generated_text}
 use Rattle.spur_words.specs.declared.task.Order.{Order}
 use Rattle.spur_words.specs.declared.task.Task.{Task}
 use Rattle.spur_words.specs.declared.task.Task.TheVariants.{Run, Check, Asm, Gen}
-use Rattle.spur_words.specs.Words.{task_of}
 use Rattle.spur_input.specs.declared.refusal.Refusal.{Refusal}
 use Rattle.spur_input.specs.Program.{IsAssembled, check_limit}
 use Rattle.spur_input.specs.Judged.{IsVerdictOn}
@@ -42,17 +42,17 @@ one_refusal (Check budget) input one other first second = one_refusal_to_check b
 one_refusal Asm input one other first second = one_refusal_to_assemble input one other first second
 one_refusal (Gen number boards pages) input one other first second = absurd first
 
-module _ {B : Type 0} (tells : B → Swap) (words : List (List ℕ)) (left left_now written written_now : Option (List ℕ)) (backing : B) (outcome : Outcome B) where
+module _ {B : Type 0} (tells : B → Swap) (probes : List Told) (asked : Result Task ℕ) (left left_now written written_now : Option (List ℕ)) (backing : B) (outcome : Outcome B) where
   abbrev IsWay : Type 0
-  IsWay = Way tells words left left_now written written_now backing outcome
+  IsWay = Way tells probes asked left left_now written written_now backing outcome
 
-  one_task : (task other : Task) → task_of words ≡ Ok task → task_of words ≡ Ok other → other ≡ task
+  one_task : (task other : Task) → asked ≡ Ok task → asked ≡ Ok other → other ≡ task
   one_task task other command chosen = cc
 
   -- ---- the verdict that is given
 
   abbrev IsJudged : Verdict → Type 0
-  IsJudged verdict = IsJudgement words left left_now written written_now outcome.status verdict
+  IsJudged verdict = IsJudgement asked left left_now written written_now outcome.status verdict
 
   none_judged : outcome.verdict ≡ None → IfSome outcome.verdict IsJudged
   none_judged none = subst (λ (o : Option Verdict). IfSome o IsJudged) (sym none) tt
@@ -62,7 +62,7 @@ module _ {B : Type 0} (tells : B → Swap) (words : List (List ℕ)) (left left_
   read_whole budget input verdict on (ReadWhole within whole) = whole
   read_whole budget input verdict on (ReadFront long had lost) = absurd (let within = on.judgeable.within in omega arith)
 
-  judged_by : (task : Task) → task_of words ≡ Ok task → (input text : List ℕ) (wanted : Status) (verdict : Option Verdict) → IsRead (limit_of task) left left_now input
+  judged_by : (task : Task) → asked ≡ Ok task → (input text : List ℕ) (wanted : Status) (verdict : Option Verdict) → IsRead (limit_of task) left left_now input
       → IsInputAnswer task input text wanted verdict → outcome.verdict ≡ verdict → IsWritten text wanted outcome.status written written_now → IfSome outcome.verdict IsJudged
   judged_by task command input text wanted verdict read (Refuses refusal why) given put = none_judged given
   judged_by task command input text wanted verdict read (Assembles asm unit is) given put = none_judged given
@@ -76,7 +76,7 @@ module _ {B : Type 0} (tells : B → Swap) (words : List (List ℕ)) (left left_
         line_written = put;
       }
 
-  answer_judged : (text : List ℕ) (wanted : Status) (verdict : Option Verdict) → IsAnswer words left left_now text wanted verdict
+  answer_judged : (text : List ℕ) (wanted : Status) (verdict : Option Verdict) → IsAnswer asked left left_now text wanted verdict
       → outcome.verdict ≡ verdict → IsWritten text wanted outcome.status written written_now → IfSome outcome.verdict IsJudged
   answer_judged text wanted verdict (ToWords number bad taken) given put = none_judged given
   answer_judged text wanted verdict (Generates number boards pages chosen taken) given put = none_judged given
@@ -93,8 +93,8 @@ module _ {B : Type 0} (tells : B → Swap) (words : List (List ℕ)) (left left_
   -- ---- a told input that is refused
 
   -- an input that was read whole and accepted for a run is not a told one that is refused
-  not_accepted : (input other : List ℕ) (task : Task) (order : Order) (options : Options) (flags : Flags) (unit : Program) (refusal : Refusal) → task_of words ≡ Ok task → left ≡ Some input
-      → IsWhole left left_now other → IsAccepted words other order options flags unit → IsRefused task input refusal → ⊥
+  not_accepted : (input other : List ℕ) (task : Task) (order : Order) (options : Options) (flags : Flags) (unit : Program) (refusal : Refusal) → asked ≡ Ok task → left ≡ Some input
+      → IsWhole left left_now other → IsAccepted asked other order options flags unit → IsRefused task input refusal → ⊥
   not_accepted input other task order options flags unit refusal command told whole accepted why =
       let one : Run order options flags ≡ task = one_task task (Run order options flags) command accepted.command in
       let same : other ≡ input = same_input left left_now input other told whole.given whole.end in
@@ -117,8 +117,8 @@ module _ {B : Type 0} (tells : B → Swap) (words : List (List ℕ)) (left left_
   refused_by task input text wanted verdict refusal why (Judges budget check v on) said =
       absurd (not_judged budget input v refusal on (subst (λ (t : Task). IsRefused t input refusal) check why))
 
-  answer_refused : (task : Task) (input text : List ℕ) (wanted : Status) (verdict : Option Verdict) (refusal : Refusal) → task_of words ≡ Ok task → left ≡ Some input → IsRefused task input refusal
-      → IsAnswer words left left_now text wanted verdict → IsSaid text wanted verdict written written_now backing outcome → Refused refusal
+  answer_refused : (task : Task) (input text : List ℕ) (wanted : Status) (verdict : Option Verdict) (refusal : Refusal) → asked ≡ Ok task → left ≡ Some input → IsRefused task input refusal
+      → IsAnswer asked left left_now text wanted verdict → IsSaid text wanted verdict written written_now backing outcome → Refused refusal
   answer_refused task input text wanted verdict refusal command told why (ToWords number bad taken) said = absurd (let e : Ok task ≡ Err number = sym command ∙ bad in cc)
   answer_refused task input text wanted verdict refusal command told why (Generates number boards pages chosen taken) said =
       absurd (subst (λ (t : Task). IsRefused t input refusal) (sym (one_task task (Gen number boards pages) command chosen)) why)
@@ -127,7 +127,7 @@ module _ {B : Type 0} (tells : B → Swap) (words : List (List ℕ)) (left left_
       let same : had ≡ input = read_input (limit_of other) left left_now input had told read in
       refused_by other had text wanted verdict refusal (subst (λ (z : Task × List ℕ). IsRefused z.0 z.1 refusal) (λ k. (sym one k, sym same k)) why) answer said
 
-  pub answers_refusal : IsWay → AnswersRefusal words left written written_now outcome
+  pub answers_refusal : IsWay → AnswersRefusal asked left written written_now outcome
   answers_refusal (Answered text wanted verdict answer said) input task refusal command told why = answer_refused task input text wanted verdict refusal command told why answer said
   answers_refusal (NotRead other chosen reads_it taken silent) input task refusal command told why = (silent.report, silent.verdict, inr silent.is)
   answers_refusal (Wanting other chosen reads_it taken silent) input task refusal command told why = (silent.report, silent.verdict, inl (Nothing silent.is silent.put))
@@ -182,8 +182,8 @@ module _ {B : Type 0} (tells : B → Swap) (words : List (List ℕ)) (left left_
       let one : v ≡ other = one_verdict budget input v other (subst (λ (i : List ℕ). IsVerdictOn budget i v) (same input told) on) is in
       subst (λ (w : Verdict). PutOrWanting (verdict_line w) (verdict_status w) written written_now outcome) one (put_or (verdict_line v) (verdict_status v) no_write put))
 
-  answer_completes : (task : Task) (text : List ℕ) (wanted : Status) (verdict : Option Verdict) → task_of words ≡ Ok task → outcome.status ≢ status.WriteFault
-      → IsAnswer words left left_now text wanted verdict → IsWritten text wanted outcome.status written written_now → Completes task
+  answer_completes : (task : Task) (text : List ℕ) (wanted : Status) (verdict : Option Verdict) → asked ≡ Ok task → outcome.status ≢ status.WriteFault
+      → IsAnswer asked left left_now text wanted verdict → IsWritten text wanted outcome.status written written_now → Completes task
   answer_completes task text wanted verdict command no_write (ToWords number bad taken) put = absurd (let e : Ok task ≡ Err number = sym command ∙ bad in cc)
   answer_completes task text wanted verdict command no_write (Generates number boards pages chosen taken) put =
       subst Completes (one_task task (Gen number boards pages) command chosen) (put_or (generated_text number boards pages) status.Fine no_write put)
@@ -192,7 +192,7 @@ module _ {B : Type 0} (tells : B → Swap) (words : List (List ℕ)) (left left_
       (input_completes other had text wanted verdict no_write (λ input told. read_input (limit_of other) left left_now input had told read) answer put)
 
   pub complete : IsWay → outcome.status ≢ status.ReadFault → outcome.status ≢ status.WriteFault → ((tells backing).faults < (tells outcome.backing).faults → ⊥)
-      → (task : Task) → task_of words ≡ Ok task → Completes task
+      → (task : Task) → asked ≡ Ok task → Completes task
   complete (Answered text wanted verdict answer said) no_read no_write no_swap task command = answer_completes task text wanted verdict command no_write answer said.put
   complete (NotRead other chosen reads_it taken silent) no_read no_write no_swap task command = absurd (no_read silent.is)
   complete (Wanting other chosen reads_it taken silent) no_read no_write no_swap task command = wanting_completes task silent.is
@@ -223,14 +223,14 @@ module _ {B : Type 0} (tells : B → Swap) (words : List (List ℕ)) (left left_
       let one : v ≡ other = one_verdict budget input v other (subst (λ (i : List ℕ). IsVerdictOn budget i v) (same input told) on) is in
       given ∙ ap (λ (w : Verdict). Some w) one)
 
-  answer_keeps : (task : Task) (text : List ℕ) (wanted : Status) (verdict : Option Verdict) → task_of words ≡ Ok task
-      → IsAnswer words left left_now text wanted verdict → outcome.verdict ≡ verdict → Keeps task
+  answer_keeps : (task : Task) (text : List ℕ) (wanted : Status) (verdict : Option Verdict) → asked ≡ Ok task
+      → IsAnswer asked left left_now text wanted verdict → outcome.verdict ≡ verdict → Keeps task
   answer_keeps task text wanted verdict command (ToWords number bad taken) given = absurd (let e : Ok task ≡ Err number = sym command ∙ bad in cc)
   answer_keeps task text wanted verdict command (Generates number boards pages chosen taken) given = subst Keeps (one_task task (Gen number boards pages) command chosen) tt
   answer_keeps task text wanted verdict command (ToInput other chosen had read text1 wanted1 verdict1 answer) given =
       subst Keeps (one_task task other command chosen) (input_keeps other had text wanted verdict (λ input told. read_input (limit_of other) left left_now input had told read) answer given)
 
-  pub kept : IsWay → outcome.status ≡ status.WriteFault → (task : Task) → task_of words ≡ Ok task → Keeps task
+  pub kept : IsWay → outcome.status ≡ status.WriteFault → (task : Task) → asked ≡ Ok task → Keeps task
   kept (Answered text wanted verdict answer said) is task command = answer_keeps task text wanted verdict command answer said.given
   kept (NotRead other chosen reads_it taken silent) is task command = absurd (let e : status.ReadFault ≡ status.WriteFault = sym silent.is ∙ is in cc)
   kept (Wanting other chosen reads_it taken silent) is task command = absurd (let e : status.NoMemory ≡ status.WriteFault = sym silent.is ∙ is in cc)

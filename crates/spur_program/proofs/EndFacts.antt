@@ -1,6 +1,6 @@
 -- What has come of a run where a good world's boards have all ended, and its caches were written back.
-use Rattle.std.proofs.Common.{◌*◌, ◌+◌, ◌≡◌, ℕ, ◌≤◌, Bool, true, false, Option, Some, None, List, [], ◌∷◌, ◌++◌, length, take, refl, sym, ap, ◌∙◌, subst, append-nil, arith, if◌then◌else◌, map, zero, suc, Result, Ok, Err}
-use Rattle.std.specs.Prelude.{IsSome, OnOk, filter, slice_get}
+use Rattle.std.proofs.Common.{◌*◌, ◌+◌, ◌≡◌, ℕ, ◌≤◌, Bool, true, false, Option, Some, None, List, [], ◌∷◌, ◌++◌, length, take, refl, sym, ap, ◌∙◌, subst, append-nil, arith, if◌then◌else◌, map, zero, suc}
+use Rattle.std.specs.Prelude.{IfNone, IsSome, filter, slice_get}
 use Rattle.std.specs.List.{All, AllByRecursion}
 use Rattle.std.proofs.lemmas.List.{length-map}
 use Rattle.std.proofs.lemmas.Option.{get_or_from_slice_get, slice_get_within}
@@ -31,7 +31,8 @@ use Rattle.spur_board.specs.Boards.{IsNew}
 use Rattle.spur_core.specs.declared.world.Beginning.{Beginning}
 use Rattle.spur_core.specs.declared.world.World.{World}
 use Rattle.spur_words.specs.declared.task.Order.{Order}
-use Rattle.spur_words.specs.declared.task.Order.TheVariants.{Rounds, Schedule}
+use Rattle.spur_words.specs.declared.task.Schedule.{Schedule}
+use Rattle.spur_words.specs.declared.task.Order.TheVariants.{Scheduled, Threads}
 use Rattle.spur_core.specs.Begin.{AreNewBoards, KeepsBeginning}
 use Rattle.spur_core.specs.World.{start_of}
 use Rattle.spur_core.specs.Start.{Start, opened_state}
@@ -41,11 +42,8 @@ use Rattle.spur_core.proofs.PartFacts.{good-has-its-parts}
 use Rattle.spur_core.proofs.SameFacts.{got_map}
 use Rattle.spur_program.specs.declared.run.Finished.{Finished}
 use Rattle.spur_program.specs.Headline.{AllAreOut, HasFollowedProgram, HaveEndings, IsInProgramOrder, IsOfOneMachine, IsRunOf, IsStoppedBySwap, Run}
-use Rattle.spur_probe.specs.Shown.{Told, first_stop}
-use Rattle.spur_sched.specs.declared.run.Ran.{Ran}
-use Rattle.spur_sched.specs.declared.run.Ran.TheVariants.{Done}
+use Rattle.spur_program.specs.Probes.{stop_number}
 use Rattle.spur_sched.specs.Followed.{IsScheduled, still_running}
-use Rattle.spur_sched.specs.Shown.{IsShown, ran_by, stop_of}
 use Rattle.spur_sched.specs.Picks.{running_from}
 use Rattle.spur_program.specs.Runs.{FollowsOrder, GoesByOrder, IsScheduledRun, first_runners, run_of, runners_from, start_from}
 
@@ -56,6 +54,11 @@ swap_fault (Some ending.Halted) is = absurd cc
 swap_fault (Some (ending.Faulted kind at)) is = absurd cc
 swap_fault (Some ending.Spent) is = absurd cc
 swap_fault (Some ending.SwapFault) is = refl
+
+-- what holds where nothing stopped a run
+unless_stopped : (stopped : Option (ℕ × ℕ)) (P : Type 0) → IfNone stopped P → IfNone (stop_number stopped) P
+unless_stopped None P holds = holds
+unless_stopped (Some stop) P holds = tt
 
 -- what the swap tells changes no number of table pages
 tables_told : (rest : Flat) (told : Option (List ℕ)) → (with_told rest told).tables ≡ rest.tables
@@ -143,8 +146,11 @@ module _ {C S B : Type 0} (m : Meaning S) (state : C → S) (spare : C → ℕ) 
         standing = ap course_ending ended;
       }
 
-  ended_all : AllAreOut runners → HaveEndings m start (record { history = past; boards = runners; memory = memory_now; swap = (tells store.backing).pages; faults = (tells store.backing).faults })
-  ended_all out = record {
+  abbrev come_run : Option ℕ → Run S
+  come_run stop = record { history = past; boards = runners; memory = memory_now; swap = (tells store.backing).pages; faults = (tells store.backing).faults; stop = stop }
+
+  ended_all : (stop : Option ℕ) → IfNone stop (AllAreOut runners) → HaveEndings m start (come_run stop)
+  ended_all stop out = record {
     all = out;
     swapped = λ i runner here swapped.
         let from = got_map (runner_of m state) boards i runner here in
@@ -152,23 +158,24 @@ module _ {C S B : Type 0} (m : Meaning S) (state : C → S) (spare : C → ℕ) 
     few = (let count = swapped_counted m state boards in let few = good.swaps in omega arith);
   }
 
-  -- what a good world has come to, where all boards have ended
-  come_to : AllAreOut runners → IsRunOf m start (record { history = past; boards = runners; memory = memory_now; swap = (tells store.backing).pages; faults = (tells store.backing).faults })
-  come_to out = record { machine = one_machine (tells store.backing).pages refl; order = in_order; endings = ended_all out }
+  -- what a good world has come to, where all boards have ended or a probe has stopped it
+  come_to : (stop : Option ℕ) → IfNone stop (AllAreOut runners) → IsRunOf m start (come_run stop)
+  come_to stop out = record { machine = one_machine (tells store.backing).pages refl; order = in_order; endings = ended_all stop out }
 
   -- and where moreover its caches were written back
-  pub written_back_run : (ran : Finished C B) → AllAreOut runners → ran.store.phys ≡ memory_now → ran.store ≡ record store { phys = ran.store.phys } → OnlyLines board_lens boards ran.boards.items
+  pub written_back_run : (ran : Finished C B) → IfNone ran.seen.stopped (AllAreOut runners) → ran.store.phys ≡ memory_now → ran.store ≡ record store { phys = ran.store.phys } → OnlyLines board_lens boards ran.boards.items
       → IsRunOf m start (run_of m state tells ran)
   written_back_run ran out memory kept only =
       let boards_are : runners ≡ runners_of m state ran.boards.items = sym (runners_kept m state boards ran.boards.items only) in
-      let same : record { history = past; boards = runners; memory = memory_now; swap = (tells store.backing).pages; faults = (tells store.backing).faults } ≡ run_of m state tells ran = λ k. record {
+      let same : come_run (stop_number ran.seen.stopped) ≡ run_of m state tells ran = λ k. record {
         history = (sym kept k).history.entries;
         boards = boards_are k;
         memory = sym memory k;
         swap = (tells (sym kept k).backing).pages;
         faults = (tells (sym kept k).backing).faults;
+        stop = stop_number ran.seen.stopped;
       } in
-      subst (IsRunOf m start) same (come_to out)
+      subst (IsRunOf m start) same (come_to (stop_number ran.seen.stopped) (unless_stopped ran.seen.stopped (AllAreOut runners) out))
 
 -- a beginning at which fewer faults were counted
 pub from_earlier : {S : Type 0} (m : Meaning S) (start : Start S) (faults : ℕ) (run : Run S) → faults ≤ start.faults → IsRunOf m start run → IsRunOf m (record start { faults = faults }) run
@@ -236,7 +243,7 @@ none_runs k (false ∷ outs) i out none at = absurd cc
 none_runs k (true ∷ outs) zero out none at = cc
 none_runs k (true ∷ outs) (suc i) out none at = none_runs (k + 1) outs i out none at
 
-all_are_out : {S : Type 0} (rs : List (Runner S)) → still_running rs ≡ [] → AllAreOut rs
+pub all_are_out : {S : Type 0} (rs : List (Runner S)) → still_running rs ≡ [] → AllAreOut rs
 all_are_out rs none i runner at = none_runs 0 (map is_out rs) i (is_out runner) none (slice_get_map rs i runner at)
   where
     slice_get_map : {S : Type 0} (rs : List (Runner S)) (i : ℕ) (r : Runner S) → slice_get rs i ≡ Some r → slice_get (map is_out rs) i ≡ Some (is_out r)
@@ -253,55 +260,33 @@ out_by segs limit cpu retired (Some (ending.Faulted kind at)) some = refl
 out_by segs limit cpu retired (Some ending.Spent) some = refl
 out_by segs limit cpu retired (Some ending.SwapFault) some = refl
 
-ended_are_out : {C S : Type 0} (m : Meaning S) (state : C → S) (boards : List (Board C)) → All (λ board. IsSome board.ended) boards → AllAreOut (runners_of m state boards)
+pub ended_are_out : {C S : Type 0} (m : Meaning S) (state : C → S) (boards : List (Board C)) → All (λ board. IsSome board.ended) boards → AllAreOut (runners_of m state boards)
 ended_are_out {C} {S} m state boards all i runner at =
     let from = got_map (runner_of m state) boards i runner at in
     let b : Board C = from.old in
     let some : IsSome b.ended = subst (λ (x : Board C). IsSome x.ended) (get_or_from_slice_get boards i b b from.there) (all i b (slice_get_within boards i b from.there)) in
     subst (λ (r : Runner S). is_out r ≡ true) from.is (out_by b.segs b.budget (state b.cpu) b.retired b.ended some)
 
-pub ended_out_if-Ok : {C S E : Type 0} (m : Meaning S) (state : C → S) (boards : List (Board C)) (result : Result (Unit {0}) E) → OnOk result (All (λ board. IsSome board.ended) boards)
-    → OnOk result (AllAreOut (runners_of m state boards))
-ended_out_if-Ok m state boards (Ok done) all = ended_are_out m state boards all
-ended_out_if-Ok m state boards (Err fault) all = tt
-
-pub scheduled_out_if-Ok : {C S E : Type 0} (m : Meaning S) (state : C → S) (number most : ℕ) (before after : List Entry) (olds news : List (Board C)) (result : Result (Unit {0}) E)
-    → OnOk result (IsScheduled m state number most None before after olds news) → OnOk result (AllAreOut (runners_of m state news))
-scheduled_out_if-Ok m state number most before after olds news (Ok done) is = all_are_out (runners_of m state news) is.followed.ended
-scheduled_out_if-Ok m state number most before after olds news (Err fault) is = tt
-
--- no probes wish no stop
-no_stop : (n : ℕ) (es : List Entry) → first_stop n es [] ≡ None
-no_stop n [] = refl
-no_stop n (e ∷ es) = no_stop (n + 1) es
-
--- so a schedule that was shown to none comes to its end
-pub shown_to_none : {A C S : Type 0} (m : Meaning S) (state : C → S) (tell : A → Told) (number most : ℕ) (ran : Ran) (entries before after : List Entry) (olds news : List (Board C)) (probes later : List A)
-    → probes ≡ [] → IsShown tell entries probes later ran → IsScheduled m state number most (stop_of ran) before after olds news → IsScheduled m state number most None before after olds news
-shown_to_none m state tell number most ran entries before after olds news probes later none shown is =
-    let done : ran ≡ Done = shown.answer ∙ ap (λ (ps : List _). ran_by (first_stop 1 entries (map tell ps))) none ∙ ap ran_by (no_stop 1 entries) in
-    subst (λ (r : Ran). IsScheduled m state number most (stop_of r) before after olds news) done is
-
 module _ {C S B : Type 0} (m : Meaning S) (state : C → S) (tells : B → Swap) where
   -- a schedule from an empty history is that of the whole run
-  scheduled_run : (number most : ℕ) (before after : List Entry) (olds news : List (Board C)) → before ≡ [] → IsScheduled m state number most None before after olds news
-      → IsScheduledRun m number most (runners_of m state olds) after (runners_of m state news)
-  scheduled_run number most before after olds news empty is =
+  scheduled_run : (schedule : Schedule) (most : ℕ) (stop : Option ℕ) (before after : List Entry) (olds news : List (Board C)) → before ≡ [] → IsScheduled m state schedule.start schedule.late most stop before after olds news
+      → IsScheduledRun m schedule most stop (runners_of m state olds) after (runners_of m state news)
+  scheduled_run schedule most stop before after olds news empty is =
       let entries : is.entries ≡ after = sym (is.history ∙ ap (λ (h : List Entry). h ++ is.entries) empty) in
-      subst (λ (es : List Entry). IsScheduledRun m number most (runners_of m state olds) es (runners_of m state news)) entries
-      record { followed = is.followed; order = is.order; few = is.few }
+      subst (λ (es : List Entry). IsScheduledRun m schedule most stop (runners_of m state olds) es (runners_of m state news)) entries
+      record { followed = is.followed; in_order = is.in_order; few = is.few }
 
   -- the order of a world's run is that of the whole run
-  pub order_followed : (order : Order) (opening : Opening) (cpus : List C) (before : Swap) (old new : World C B) (ran : Finished C B) → GoesByOrder m state order old new
+  pub order_followed : (order : Order) (opening : Opening) (cpus : List C) (before : Swap) (old new : World C B) (ran : Finished C B) → GoesByOrder m state order (stop_number ran.seen.stopped) old new
       → length cpus ≡ length opening.segs → AreNewBoards opening.segs opening.options.lines opening.options.budget cpus old.boards.items → old.beginning.opening.value ≡ opening → old.store.history.entries ≡ []
       → ran.store ≡ record new.store { phys = ran.store.phys } → OnlyLines board_lens new.boards.items ran.boards.items
       → FollowsOrder m order (start_from state opening cpus before) (run_of m state tells ran)
-  order_followed Rounds opening cpus before old new ran goes count fresh keeps empty kept only = tt
-  order_followed (Schedule number) opening cpus before old new ran goes count fresh keeps empty kept only =
+  order_followed Threads opening cpus before old new ran goes count fresh keeps empty kept only = tt
+  order_followed (Scheduled schedule) opening cpus before old new ran goes count fresh keeps empty kept only =
       let boards : length old.boards.items ≡ length opening.segs = fresh.count ∙ count in
       let most : length old.boards.items * (old.beginning.opening.value.options.budget + 1) ≡ length opening.segs * (opening.options.budget + 1) = λ k. boards k * ((keeps k).options.budget + 1) in
       let olds = new_are_first m state opening cpus old.boards.items before count fresh in
       let entries : new.store.history.entries ≡ ran.store.history.entries = λ k. (sym kept k).history.entries in
       let news : runners_of m state new.boards.items ≡ runners_of m state ran.boards.items = sym (runners_kept m state new.boards.items ran.boards.items only) in
-      subst (λ (z : ℕ × List (Runner S) × List Entry × List (Runner S)). IsScheduledRun m number z.0 z.1 z.2 z.3) (λ k. (most k, olds k, entries k, news k))
-      (scheduled_run number (length old.boards.items * (old.beginning.opening.value.options.budget + 1)) old.store.history.entries new.store.history.entries old.boards.items new.boards.items empty goes)
+      subst (λ (z : ℕ × List (Runner S) × List Entry × List (Runner S)). IsScheduledRun m schedule z.0 (stop_number ran.seen.stopped) z.1 z.2 z.3) (λ k. (most k, olds k, entries k, news k))
+      (scheduled_run schedule (length old.boards.items * (old.beginning.opening.value.options.budget + 1)) (stop_number ran.seen.stopped) old.store.history.entries new.store.history.entries old.boards.items new.boards.items empty goes)

@@ -1,7 +1,11 @@
 pub mod EndFacts
-pub mod PlainFacts
+pub mod SeenFacts
+pub mod RunFacts
 pub mod TraceFacts
+pub mod PlainFacts
 pub mod WrittenFacts
+pub mod PlainMemoryFacts
+pub mod InvisibleFacts
 pub mod WayFacts
 pub mod AnswerFacts
 pub mod CompleteFacts

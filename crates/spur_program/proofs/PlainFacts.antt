@@ -1,5 +1,5 @@
 -- Processors of codes, and the report of a run with them.
-use Rattle.std.proofs.Common.{◌≡◌, ◌⊎◌, inl, inr, ℕ, zero, suc, ◌≤◌, Some, Result, Ok, Err, IfOk, List, [], ◌∷◌, ◌++◌, length, map, refl, sym, ap, subst, arith}
+use Rattle.std.proofs.Common.{◌≡◌, ◌⊎◌, inl, inr, ℕ, zero, suc, ◌≤◌, Option, Some, Result, Ok, Err, IfOk, List, [], ◌∷◌, ◌++◌, length, map, refl, sym, ap, ◌∙◌, subst, arith}
 use Rattle.std.specs.Prelude.{slice_get}
 use Rattle.std.specs.List.{AllZip}
 use Rattle.std.proofs.lemmas.List.{length-append}
@@ -16,14 +16,21 @@ use Rattle.spur_core.specs.Loaded.{AreAtBeginning, IsAtBeginning}
 use Rattle.spur_core.specs.Start.{Start}
 use Rattle.spur_core.specs.Step.{runners_of}
 use Rattle.spur_core.proofs.LoadedFacts.{loaded_may_begin}
+use Rattle.spur_flat.specs.declared.entry.Entry.{Entry}
+use Rattle.spur_probe.specs.declared.probe.ProbeLine.{ProbeLine}
+use Rattle.spur_probe.specs.Shown.{Told}
 use Rattle.spur_report.specs.declared.report.BoardReport.{BoardReport}
 use Rattle.spur_words.specs.declared.task.Order.{Order}
+use Rattle.spur_program.specs.declared.plain.Prepared.{Prepared}
 use Rattle.spur_program.specs.declared.plain.Reported.{Reported}
+use Rattle.spur_trace.specs.declared.head.TraceHead.{TraceHead}
 use Rattle.spur_program.specs.declared.run.Finished.{Finished}
 use Rattle.spur_input.specs.Program.{IsLoadedOpening}
 use Rattle.spur_program.specs.Headline.{IsRunOf, Run}
-use Rattle.spur_program.specs.Runs.{FollowsOrder, run_of, start_from}
-use Rattle.spur_program.specs.Reports.{IsReportFrom, IsReportOf, ShowsBoard, head_of, plain_start, report_row, run_in}
+use Rattle.spur_program.specs.Probes.{AreShown, stop_number}
+use Rattle.spur_program.specs.Runs.{FollowsOrder, HasRun, run_of, start_from}
+use Rattle.spur_program.proofs.TraceFacts.{entries_fit, head_fits, judged_good}
+use Rattle.spur_program.specs.Reports.{IsPrepared, IsReportFrom, IsReportOf, IsReportedRun, ShowsBoard, plain_start, report_row, run_in}
 
 -- ---- processors
 
@@ -87,36 +94,48 @@ shows_rows : (boards : List (Board PlainCpu)) → AllZip ShowsBoard (map report_
 shows_rows [] = tt
 shows_rows (b ∷ boards) = (record { program = refl; swap = refl; retired = refl; registers = refl; shown = refl }, shows_rows boards)
 
--- what a run has come to, in this order
-abbrev HasCome : Order → Start Plain → Run Plain → Type 0
-HasCome order start run = IsRunOf plain start run × FollowsOrder plain order start run
-
 -- what is reported of a run is the report of it
-report_is : {B : Type 0} (tells : B → Swap) (opening : Opening) (code : List (List Instr)) (order : Order) (cpus : List PlainCpu) (before : Swap) (ran : Finished PlainCpu B) (done : Reported B)
-    → map plain_of cpus ≡ map opened opening.code → HasCome order (start_from plain_of (record opening { code = code }) cpus before) (run_of plain plain_of tells ran) → IsReportFrom (head_of opening) ran done
+report_is : {B : Type 0} (tells : B → Swap) (opening : Opening) (ready : Prepared) (order : Order) (probes : List Told) (before : Swap) (ran : Finished PlainCpu B) (done : Reported B)
+    → IsPrepared opening ready → HasRun plain plain_of tells order probes ready.opening ready.cpus.items before ran → IsReportFrom ready.head ran done
     → IsReportOf opening order before (tells done.backing) done.report
-report_is tells opening code order cpus before ran done states come from =
-    let start : start_from plain_of (record opening { code = code }) cpus before ≡ plain_start opening before.faults =
-    λ k. record { flat = opening.flat; segs = opening.segs; options = opening.options; firsts = states k; faults = before.faults } in
+report_is tells opening ready order probes before ran done prepared has from =
+    let start : start_from plain_of ready.opening ready.cpus.items before ≡ plain_start opening before.faults =
+    λ k. record { flat = (prepared.bare k).flat; segs = (prepared.bare k).segs; options = (prepared.bare k).options; firsts = prepared.states k; faults = before.faults } in
     let run : run_of plain plain_of tells ran ≡ run_in done.report (runners_of plain plain_of ran.boards.items) (tells done.backing) = λ k. record {
       history = sym from.history k;
       boards = runners_of plain plain_of ran.boards.items;
       memory = sym from.last k;
       swap = (tells (sym from.swap k)).pages;
       faults = (tells (sym from.swap k)).faults;
+      stop = stop_number (sym from.stopped k);
     } in
-    let all = subst (λ (z : Start Plain × Run Plain). HasCome order z.0 z.1) (λ k. (start k, run k)) come in
+    let all = subst (λ (z : Start Plain × Run Plain). IsRunOf plain z.0 z.1 × FollowsOrder plain order z.0 z.1) (λ k. (start k, run k)) (has.came, has.followed) in
     record {
       boards = runners_of plain plain_of ran.boards.items;
       rows = subst (λ (rows : List BoardReport). AllZip ShowsBoard rows (runners_of plain plain_of ran.boards.items)) (sym from.boards) (shows_rows ran.boards.items);
-      head = from.head_is;
+      head = from.head_is ∙ prepared.head;
       run = all.0;
       followed = all.1;
     }
 
+-- and it tells of the probes what they saw
+shown_is : {B : Type 0} (head : TraceHead) (order : Order) (probes : List Told) (ran : Finished PlainCpu B) (done : Reported B)
+    → AreShown order probes ran.store.history.entries ran.seen.stopped ran.seen.lines.items → IsReportFrom head ran done
+    → AreShown order probes done.report.history done.report.stopped done.report.lines
+shown_is head order probes ran done shown from =
+    subst (λ (z : List Entry × Option (ℕ × ℕ) × List ProbeLine). AreShown order probes z.0 z.1 z.2) (λ k. (sym from.history k, sym from.stopped k, sym from.lines k)) shown
+
 -- so it is where a report was made
-pub report_if-Ok : {B E : Type 0} (tells : B → Swap) (opening : Opening) (code : List (List Instr)) (order : Order) (cpus : List PlainCpu) (before : Swap) (ran : Finished PlainCpu B)
-    (result : Result (Reported B) E) → map plain_of cpus ≡ map opened opening.code → HasCome order (start_from plain_of (record opening { code = code }) cpus before) (run_of plain plain_of tells ran)
-    → IfOk result (IsReportFrom (head_of opening) ran) → IfOk result (λ done. IsReportOf opening order before (tells done.backing) done.report)
-report_if-Ok tells opening code order cpus before ran (Ok done) states come from = report_is tells opening code order cpus before ran done states come from
-report_if-Ok tells opening code order cpus before ran (Err fault) states come from = tt
+pub reported_if-Ok : {B E : Type 0} (tells : B → Swap) (opening : Opening) (ready : Prepared) (order : Order) (probes : List Told) (before : Swap) (ran : Finished PlainCpu B) (result : Result (Reported B) E)
+    → IsLoadedOpening opening → IsPrepared opening ready → HasRun plain plain_of tells order probes ready.opening ready.cpus.items before ran → IfOk result (IsReportFrom ready.head ran)
+    → IfOk result (λ done. IsReportedRun opening order probes before (tells done.backing) done.report)
+reported_if-Ok tells opening ready order probes before ran (Ok done) loaded prepared has from =
+    let reports = report_is tells opening ready order probes before ran done prepared has from in
+    record {
+      reports = reports;
+      shown = shown_is ready.head order probes ran done has.shown from;
+      head = head_fits opening done.report loaded reports.head;
+      entries = entries_fit opening order before (tells done.backing) done.report loaded reports;
+      good = judged_good opening order before (tells done.backing) done.report loaded reports;
+    }
+reported_if-Ok tells opening ready order probes before ran (Err fault) loaded prepared has from = tt

@@ -1,5 +1,5 @@
 -- The trace of a run: it may be written, and it is judged good.
-use Rattle.std.proofs.Common.{◌≡◌, ℕ, zero, suc, ◌<◌, ◌≤◌, Option, Some, None, Result, Ok, Err, IfOk, List, [], ◌∷◌, length, map, refl, sym, ap, ◌∙◌, subst, arith}
+use Rattle.std.proofs.Common.{◌≡◌, ℕ, zero, suc, ◌<◌, ◌≤◌, Option, Some, None, List, [], ◌∷◌, length, map, refl, sym, ap, ◌∙◌, subst, arith}
 use Rattle.std.specs.Prelude.{IsSome, slice_get}
 use Rattle.std.specs.List.{All}
 use Rattle.std.proofs.lemmas.List.Elements.{All-from_recursion}
@@ -27,7 +27,6 @@ use Rattle.spur_core.specs.Step.{Runner}
 use Rattle.spur_report.specs.declared.report.Report.{Report}
 use Rattle.spur_words.specs.declared.task.Order.{Order}
 use Rattle.spur_input.specs.Program.{IsLoadedOpening}
-use Rattle.spur_program.specs.declared.plain.Reported.{Reported}
 use Rattle.spur_program.specs.Headline.{HasFollowedProgram, IsOfOneMachine}
 use Rattle.spur_program.specs.Reports.{IsReportOf, head_of, plain_start}
 
@@ -116,22 +115,3 @@ module _ (opening : Opening) (order : Order) (before now : Swap) (report : Repor
 
   pub judged_good : IsSome now.pages → judged opening report.history ≡ Good (length report.history)
   judged_good some = good_by now.pages reports.run.machine some
-
--- ---- so it is where a report was made
-
-module _ {B E : Type 0} (tells : B → Swap) (opening : Opening) (order : Order) (before : Swap) (loaded : IsLoadedOpening opening) where
-  abbrev Reports : Result (Reported B) E → Type 0
-  Reports result = IfOk result (λ done. IsReportOf opening order before (tells done.backing) done.report)
-
-  pub head_if-Ok : (result : Result (Reported B) E) → Reports result → IfOk result (λ done. IsHead done.report.head)
-  head_if-Ok (Ok done) reports = head_fits opening done.report loaded reports.head
-  head_if-Ok (Err fault) reports = tt
-
-  pub entries_if-Ok : (result : Result (Reported B) E) → Reports result → IfOk result (λ done. All (IsWellFormed done.report.head.boards) done.report.history)
-  entries_if-Ok (Ok done) reports = entries_fit opening order before (tells done.backing) done.report loaded reports
-  entries_if-Ok (Err fault) reports = tt
-
-  pub good_if-Ok : (result : Result (Reported B) E) → Reports result
-      → IfOk result (λ done. IsSome (tells done.backing).pages → judged opening done.report.history ≡ Good (length done.report.history))
-  good_if-Ok (Ok done) reports = judged_good opening order before (tells done.backing) done.report loaded reports
-  good_if-Ok (Err fault) reports = tt

@@ -1,10 +1,12 @@
 -- How the ways of the top call come about.
-use Rattle.std.proofs.Common.{◌≡◌, ℕ, ◌<◌, ◌≤◌, ◌+◌, true, List, [], length, Option, Some, None, Ok, refl, sym, ap, ◌∙◌, subst, append-nil, arith}
+use Rattle.std.proofs.Common.{◌≡◌, ◌≢◌, ℕ, ◌<◌, ◌≤◌, ◌+◌, true, List, [], length, Option, Some, None, Result, Ok, refl, sym, ap, ◌∙◌, subst, append-nil, arith}
+use Rattle.std.specs.List.{list_all}
 use Rattle.std.proofs.lemmas.List.{length-append}
 use Rattle.spur_io.specs.Told.{Loses, LosesAtMost, LosesCount, IsAtEnd, Gains}
 use Rattle.spur_io.specs.declared.whole.ReadAll.{ReadAll}
 use Rattle.spur_io.specs.declared.whole.ReadAll.TheVariants as reading
 use Rattle.spur_swap.specs.Meaning.{Swap}
+use Rattle.spur_probe.specs.Shown.{Told}
 use Rattle.spur_loader.specs.declared.opening.Opening.{Opening}
 use Rattle.spur_loader.specs.declared.opening.Options.{Options}
 use Rattle.spur_report.specs.declared.report.Flags.{Flags}
@@ -13,7 +15,6 @@ use Rattle.spur_report.specs.Texts.{report_text}
 use Rattle.spur_words.specs.declared.task.Order.{Order}
 use Rattle.spur_words.specs.declared.task.Task.{Task}
 use Rattle.spur_words.specs.declared.task.Task.TheVariants.{Run, Check, Asm, Gen}
-use Rattle.spur_words.specs.Words.{task_of}
 use Rattle.spur_input.specs.declared.refusal.NotAccepted.{NotAccepted}
 use Rattle.spur_input.specs.declared.refusal.NotAccepted.TheVariants as unaccepted
 use Rattle.spur_input.specs.declared.refusal.Refusal.{Refusal}
@@ -27,9 +28,12 @@ use Rattle.spur_program.specs.declared.report.Outcome.{Outcome}
 use Rattle.spur_program.specs.declared.report.Status.{Status}
 use Rattle.spur_program.specs.declared.report.Status.TheVariants as status
 use Rattle.spur_program.specs.Accepted.{IsLeft, IsRefused, IsWhole, ReadFront, ReadWhole, limit_of, reads_input}
+use Rattle.spur_program.specs.Probes.{AreShown}
 use Rattle.spur_program.specs.Reports.{IsReportOf}
 use Rattle.spur_program.specs.Runs.{HasFailedAtStart}
-use Rattle.spur_program.specs.Answer.{InputAnswered, Said, Unsaid, Reported, Unbegun, Undone, IsSaid, IsSilent, IsTracedGood, IsWritten, Refuses, ToInput, fault_status, status_of, Way, Answered, NotRead, Wanting, NotBegun, NotRun, Ran}
+use Rattle.spur_program.proofs.InvisibleFacts.{on_plain_memory}
+use Rattle.spur_program.proofs.WrittenFacts.{end_answers, input_answers, never, run_ends}
+use Rattle.spur_program.specs.Answer.{InputAnswered, Said, Unsaid, Reported, Unbegun, Undone, IsSaid, IsSilent, IsTracedGood, IsWritten, Refuses, ToInput, fault_status, has_halted, status_of, Way, Answered, NotRead, Wanting, NotBegun, NotRun, Ran}
 
 -- nothing was put, and nothing was taken
 pub gains-none : (written : Option (List ℕ)) → Gains written written []
@@ -73,17 +77,17 @@ long_input limit (Some old) (Some new) bytes loses count =
 
 -- ---- what an input that was read whole is answered
 
-module _ {B : Type 0} (tells : B → Swap) (input : List ℕ) (order : Order) (options : Options) (flags : Flags) (written written_now : Option (List ℕ)) (backing other : B) (outcome : Outcome B) where
+module _ {B : Type 0} (tells : B → Swap) (probes : List Told) (input : List ℕ) (order : Order) (options : Options) (flags : Flags) (written written_now : Option (List ℕ)) (backing other : B) (outcome : Outcome B) where
   abbrev IsRunAnswered : Type 0
-  IsRunAnswered = InputAnswered tells (Run order options flags) input written written_now backing outcome
+  IsRunAnswered = InputAnswered tells probes (Run order options flags) input written written_now backing outcome
 
   -- the run of an opening was reported
   pub report_answered : (opening : Opening) (report : Report) → IsOpeningOf options input opening → IsReportOf opening order (tells backing) (tells other) report
-      → IsTracedGood opening flags (tells other) outcome.status report → outcome.report ≡ Some report → outcome.verdict ≡ None → outcome.backing ≡ other
+      → AreShown order probes report.history report.stopped report.lines → IsTracedGood opening flags (tells other) outcome.status report → outcome.report ≡ Some report → outcome.verdict ≡ None → outcome.backing ≡ other
       → IsWritten (report_text report flags) (status_of report) outcome.status written written_now → IsRunAnswered
-  report_answered opening report opens reports traced given none same put =
+  report_answered opening report opens reports shown traced given none same put =
       Reported order options flags refl opens.unit opens.loadable report given none
-      (subst (λ (z : Opening × B). IsReportOf z.0 order (tells backing) (tells z.1) report) (λ k. (opens.is k, sym same k)) reports) put
+      (subst (λ (z : Opening × B). IsReportOf z.0 order (tells backing) (tells z.1) report) (λ k. (opens.is k, sym same k)) reports) shown put
       (subst (λ (z : Opening × B). IsTracedGood z.0 flags (tells z.1) outcome.status report) (λ k. (opens.is k, sym same k)) traced)
 
   -- the boards of an opening were not run to their ends
@@ -94,21 +98,38 @@ module _ {B : Type 0} (tells : B → Swap) (input : List ℕ) (order : Order) (o
       record { is = at; report = none; verdict = also; put = put }
   fault_answered opening NoMemory opens cause same none also at put = Undone order options flags refl opens.unit opens.loadable record { is = at; report = none; verdict = also; put = put }
 
+-- an input that was read whole is never answered by a fault in reading
+pub input_no_read : {B : Type 0} (tells : B → Swap) (probes : List Told) (task : Task) (input : List ℕ) (written written_now : Option (List ℕ)) (backing : B) (outcome : Outcome B)
+    → InputAnswered tells probes task input written written_now backing outcome → outcome.status ≢ status.ReadFault
+input_no_read tells probes task input written written_now backing outcome (Said text wanted verdict answer said) is =
+    never text wanted outcome.status status.ReadFault written written_now (input_answers task input text wanted verdict answer) (λ x. x) (λ x. cc) (λ x. cc) said.put is
+input_no_read tells probes task input written written_now backing outcome (Unsaid silent) is = (let e : status.NoMemory ≡ status.ReadFault = sym silent.is ∙ is in cc)
+input_no_read tells probes task input written written_now backing outcome (Reported order options flags run unit loadable report given none reports shown put traced) is =
+    never _ _ outcome.status status.ReadFault written written_now (end_answers _ (run_ends report.stopped (list_all has_halted report.boards))) (λ x. x) (λ x. cc) (λ x. cc) put is
+input_no_read tells probes task input written written_now backing outcome (Unbegun order options flags run unit loadable failed broken) is = (let e : status.SwapAtStart ≡ status.ReadFault = sym broken.is ∙ is in cc)
+input_no_read tells probes task input written written_now backing outcome (Undone order options flags run unit loadable broken) is = (let e : status.NoMemory ≡ status.ReadFault = sym broken.is ∙ is in cc)
+
+-- what the words ask for, by another name
+pub asked_as : {B : Type 0} (tells : B → Swap) (probes : List Told) (asked other : Result Task ℕ) (left left_now written written_now : Option (List ℕ)) (backing : B) (outcome : Outcome B) → asked ≡ other
+    → Way tells probes other left left_now written written_now backing outcome → Way tells probes asked left left_now written written_now backing outcome
+asked_as tells probes asked other left left_now written written_now backing outcome same way =
+    subst (λ (a : Result Task ℕ). Way tells probes a left left_now written written_now backing outcome) (sym same) way
+
 -- an input that is not accepted
-pub not_accepted_answered : {B : Type 0} (tells : B → Swap) (task : Task) (input : List ℕ) (written written_now : Option (List ℕ)) (backing : B) (outcome : Outcome B) (why : NotAccepted)
+pub not_accepted_answered : {B : Type 0} (tells : B → Swap) (probes : List Told) (task : Task) (input : List ℕ) (written written_now : Option (List ℕ)) (backing : B) (outcome : Outcome B) (why : NotAccepted)
     → ((refusal : Refusal) → why ≡ unaccepted.Refused refusal → IsRefused task input refusal)
     → ((refusal : Refusal) → why ≡ unaccepted.Refused refusal → IsSaid (refusal_line refusal) status.Input None written written_now backing outcome)
     → (why ≡ unaccepted.NoMemory → IsSilent status.NoMemory written written_now backing outcome)
-    → InputAnswered tells task input written written_now backing outcome
-not_accepted_answered tells task input written written_now backing outcome (unaccepted.Refused refusal) cause said silent =
+    → InputAnswered tells probes task input written written_now backing outcome
+not_accepted_answered tells probes task input written written_now backing outcome (unaccepted.Refused refusal) cause said silent =
     Said (refusal_line refusal) status.Input None (Refuses refusal (cause refusal refl)) (said refusal refl)
-not_accepted_answered tells task input written written_now backing outcome unaccepted.NoMemory cause said silent = Unsaid (silent refl)
+not_accepted_answered tells probes task input written written_now backing outcome unaccepted.NoMemory cause said silent = Unsaid (silent refl)
 
 -- ---- the ways
 
-module _ {B : Type 0} (tells : B → Swap) (words : List (List ℕ)) (left left_now written written_now : Option (List ℕ)) (backing : B) (outcome : Outcome B) (task : Task) (command : task_of words ≡ Ok task) where
+module _ {B : Type 0} (tells : B → Swap) (probes : List Told) (asked : Result Task ℕ) (left left_now written written_now : Option (List ℕ)) (backing : B) (outcome : Outcome B) (task : Task) (command : asked ≡ Ok task) where
   abbrev IsSomeWay : Type 0
-  IsSomeWay = Way tells words left left_now written written_now backing outcome
+  IsSomeWay = Way tells probes asked left left_now written written_now backing outcome
 
   -- one byte more than the limit was taken
   read_long : reads_input task ≡ true → LosesCount left left_now (limit_of task + 1)
@@ -129,11 +150,11 @@ module _ {B : Type 0} (tells : B → Swap) (words : List (List ℕ)) (left left_
   read_not reads_it reading.NoMemory taken most said failed wanting = Wanting task command reads_it most (wanting refl)
 
   -- an input that was read whole ends in one of five ways
-  pub read_whole : reads_input task ≡ true → (input : List ℕ) → IsWhole left left_now input → length input ≤ limit_of task → InputAnswered tells task input written written_now backing outcome → IsSomeWay
+  pub read_whole : reads_input task ≡ true → (input : List ℕ) → IsWhole left left_now input → length input ≤ limit_of task → InputAnswered tells probes task input written written_now backing outcome → IsSomeWay
   read_whole reads_it input whole within (Said text wanted verdict answer said) =
       Answered text wanted verdict (ToInput task command input (ReadWhole within whole) text wanted verdict answer) said
   read_whole reads_it input whole within (Unsaid silent) = Wanting task command reads_it (input, whole.given, omega (arith, within)) silent
-  read_whole reads_it input whole within (Reported order options flags run unit loadable report given none reports put traced) =
+  read_whole reads_it input whole within (Reported order options flags run unit loadable report given none reports shown put traced) =
       Ran report given none record {
         input = input;
         whole = whole;
@@ -143,6 +164,8 @@ module _ {B : Type 0} (tells : B → Swap) (words : List (List ℕ)) (left left_
         unit = unit;
         accepted = record { command = command ∙ ap (λ (t : Task). Ok t) run; loadable = loadable };
         reports = reports;
+        invisible = on_plain_memory options input unit order (tells backing) (tells outcome.backing) report loadable reports;
+        shown = shown;
         text_written = put;
         traced = traced;
       }

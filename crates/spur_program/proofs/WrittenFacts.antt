@@ -1,22 +1,31 @@
 -- Texts that were to be written, and their statuses.
-use Rattle.std.proofs.Common.{◌≡◌, ◌≢◌, ℕ, Bool, true, false, List, [], ◌++◌, Option, Some, None, refl, sym, ap, ◌∙◌, subst, append-nil, if◌then◌else◌}
+use Rattle.std.proofs.Common.{◌≡◌, ◌≢◌, ℕ, Bool, true, false, List, [], ◌++◌, Option, Some, None, Result, refl, sym, ap, ◌∙◌, subst, append-nil}
+use Rattle.std.specs.Prelude.{IsSome}
 use Rattle.spur_io.specs.Told.{Loses, IsAtEnd, Gains}
 use Rattle.spur_check.specs.declared.verdict.Verdict.{Verdict}
 use Rattle.spur_check.specs.declared.verdict.Verdict.TheVariants.{Good, Bad}
+use Rattle.spur_words.specs.declared.task.Task.{Task}
 use Rattle.spur_program.specs.declared.report.Status.{Status}
 use Rattle.spur_program.specs.declared.report.Status.TheVariants as status
 use Rattle.spur_program.specs.Accepted.{IsLeft, IsRead, ReadFront, ReadWhole}
-use Rattle.spur_program.specs.Answer.{IsAnswer, IsInputAnswer, IsWritten, Whole, Front, Nothing, Assembles, Generates, Judges, Refuses, ToInput, ToWords, verdict_status}
+use Rattle.spur_program.specs.Answer.{IsAnswer, IsInputAnswer, IsWritten, Whole, Front, Nothing, Assembles, Generates, Judges, Refuses, ToInput, ToWords, status_by, verdict_status}
 
 -- ---- the status of a run
 
-pub run_fine : (all : Bool) → (if all then status.Fine else status.Ended) ≡ status.Fine → all ≡ true
-run_fine true is = refl
-run_fine false is = absurd cc
+pub run_fine : (stopped : Option (ℕ × ℕ)) (all : Bool) → status_by stopped all ≡ status.Fine → (stopped ≡ None) × (all ≡ true)
+run_fine None true is = (refl, refl)
+run_fine None false is = absurd cc
+run_fine (Some stop) all is = absurd cc
 
-pub run_ended : (all : Bool) → (if all then status.Fine else status.Ended) ≡ status.Ended → all ≡ false
-run_ended true is = absurd cc
-run_ended false is = refl
+pub run_ended : (stopped : Option (ℕ × ℕ)) (all : Bool) → status_by stopped all ≡ status.Ended → (stopped ≡ None) × (all ≡ false)
+run_ended None true is = absurd cc
+run_ended None false is = (refl, refl)
+run_ended (Some stop) all is = absurd cc
+
+pub run_stopped : (stopped : Option (ℕ × ℕ)) (all : Bool) → status_by stopped all ≡ status.Stopped → IsSome stopped
+run_stopped None true is = absurd cc
+run_stopped None false is = absurd cc
+run_stopped (Some stop) all is = refl
 
 -- what a command that was answered may have as its status
 abbrev pub IsAnswerStatus : Status → Type 0
@@ -27,23 +36,26 @@ IsAnswerStatus status.Input = Unit {0}
 IsAnswerStatus status.ReadFault = ⊥
 IsAnswerStatus status.WriteFault = ⊥
 IsAnswerStatus status.SwapAtStart = ⊥
+IsAnswerStatus status.Stopped = Unit {0}
 IsAnswerStatus status.NoMemory = ⊥
 
 -- what a run that was reported or a trace that was judged may have
 abbrev pub IsEndStatus : Status → Type 0
 IsEndStatus status.Fine = Unit {0}
 IsEndStatus status.Ended = Unit {0}
+IsEndStatus status.Stopped = Unit {0}
 IsEndStatus other = ⊥
 
-pub run_ends : (all : Bool) → IsEndStatus (if all then status.Fine else status.Ended)
-run_ends true = tt
-run_ends false = tt
+pub run_ends : (stopped : Option (ℕ × ℕ)) (all : Bool) → IsEndStatus (status_by stopped all)
+run_ends None true = tt
+run_ends None false = tt
+run_ends (Some stop) all = tt
 
 pub verdict_ends : (verdict : Verdict) → IsEndStatus (verdict_status verdict)
 verdict_ends (Good entries) = tt
 verdict_ends (Bad at clause wanted found) = tt
 
-end_answers : (s : Status) → IsEndStatus s → IsAnswerStatus s
+pub end_answers : (s : Status) → IsEndStatus s → IsAnswerStatus s
 end_answers status.Fine is = tt
 end_answers status.Ended is = tt
 end_answers status.Words is = tt
@@ -51,6 +63,7 @@ end_answers status.Input is = tt
 end_answers status.ReadFault is = absurd is
 end_answers status.WriteFault is = absurd is
 end_answers status.SwapAtStart is = absurd is
+end_answers status.Stopped is = tt
 end_answers status.NoMemory is = absurd is
 
 -- ---- texts that were put
@@ -90,10 +103,10 @@ input_answers task input text wanted verdict (Refuses refusal why) = tt
 input_answers task input text wanted verdict (Assembles asm unit is) = tt
 input_answers task input text wanted verdict (Judges budget check v on) = end_answers (verdict_status v) (verdict_ends v)
 
-pub answers : (words : List (List ℕ)) (left left_now : Option (List ℕ)) (text : List ℕ) (wanted : Status) (verdict : Option Verdict) → IsAnswer words left left_now text wanted verdict → IsAnswerStatus wanted
-answers words left left_now text wanted verdict (ToWords number bad taken) = tt
-answers words left left_now text wanted verdict (Generates number boards pages chosen taken) = tt
-answers words left left_now text wanted verdict (ToInput task chosen input read text1 wanted1 verdict1 answer) = input_answers task input text wanted verdict answer
+pub answers : (asked : Result Task ℕ) (left left_now : Option (List ℕ)) (text : List ℕ) (wanted : Status) (verdict : Option Verdict) → IsAnswer asked left left_now text wanted verdict → IsAnswerStatus wanted
+answers asked left left_now text wanted verdict (ToWords number bad taken) = tt
+answers asked left left_now text wanted verdict (Generates number boards pages chosen taken) = tt
+answers asked left left_now text wanted verdict (ToInput task chosen input read text1 wanted1 verdict1 answer) = input_answers task input text wanted verdict answer
 
 -- ---- what a source that tells was read of
 

@@ -1,5 +1,6 @@
 -- Which inputs each command accepts and refuses, and what is taken of a source.
-use Rattle.std.specs.Prelude.{◌≡◌, ℕ, ◌+◌, ◌<◌, ◌≤◌, Bool, true, false, List, length, Option, Some, None, Ok}
+use Rattle.std.specs.Prelude.{◌≡◌, ℕ, ◌+◌, ◌<◌, ◌≤◌, Bool, true, false, List, length, Option, Some, None, Result, Ok, String}
+use Rattle.std.specs.declared.alloc.Global.{Global}
 use Rattle.spur_io.specs.Told.{IsAtEnd, Loses, LosesCount}
 use Rattle.spur_object.specs.declared.unit.Unit.{Unit as Program}
 use Rattle.spur_loader.specs.declared.opening.Options.{Options}
@@ -7,10 +8,18 @@ use Rattle.spur_report.specs.declared.report.Flags.{Flags}
 use Rattle.spur_words.specs.declared.task.Order.{Order}
 use Rattle.spur_words.specs.declared.task.Task.{Task}
 use Rattle.spur_words.specs.declared.task.Task.TheVariants.{Run, Check, Asm, Gen}
-use Rattle.spur_words.specs.Words.{task_of}
+use Rattle.spur_words.specs.Words.{task_alone, task_of, texts}
 use Rattle.spur_input.specs.declared.refusal.Refusal.{Refusal}
 use Rattle.spur_input.specs.Program.{IsLoadable, check_limit, program_limit}
 use Rattle.spur_input.specs.Refused.{IsRefusedToAssemble, IsRefusedToCheck, IsRefusedToRun}
+
+-- what the words of the command line ask for, or the number of the word that is refused; and the same where there are no
+-- threads, and so no `run`
+abbrev pub asked_by : List (String Global) → Result Task ℕ
+asked_by words = task_of (texts words)
+
+abbrev pub asked_alone_by : List (String Global) → Result Task ℕ
+asked_alone_by words = task_alone (texts words)
 
 -- whether a command reads an input
 abbrev pub reads_input : Task → Bool
@@ -28,8 +37,9 @@ limit_of (Gen number boards pages) = 0
 
 -- accepted program text: the words of the command line are of the table and ask for a run of this order, with these
 -- options and flags; and the input is the program of this unit, to which no load fault applies
-pub record IsAccepted (words : List (List ℕ)) (input : List ℕ) (order : Order) (options : Options) (flags : Flags) (unit : Program) : Type 0 where
-  pub command : task_of words ≡ Ok (Run order options flags)
+pub record IsAccepted (asked : Result Task ℕ) (input : List ℕ) (order : Order) (options : Options) (flags : Flags)
+    (unit : Program) : Type 0 where
+  pub command : asked ≡ Ok (Run order options flags)
   pub loadable : IsLoadable options input unit
 
 -- why a command refuses an input

@@ -4,9 +4,13 @@
 -- Whatever order the boards' steps take, the run gives one history: each board's loads, stores and test-and-sets stand
 -- in it once and in program order, each answered or faulted as one machine over flat memory and its page table then
 -- may; its bus entries obey the ownership rules; and the registers, the final memory and the swap are that history's.
-use Rattle.std.specs.Prelude.{◌≡◌, ◌⊎◌, ◌+◌, ◌≤◌, ℕ, true, ◌∷◌, [], ◌++◌, List, length, take, Option, Some, None, slice_get, filter}
+--
+-- And paging is invisible: what is left of the history without bus, pager and faults that are served is one of a machine
+-- with plain memory.
+use Rattle.std.specs.Prelude.{◌≡◌, ◌⊎◌, ◌+◌, ◌≤◌, ℕ, true, ◌∷◌, [], ◌++◌, IfNone, List, length, take, Option, Some, None, slice_get, filter}
 use Rattle.std.specs.List.{AllByRecursion}
 use Rattle.spur_addr.specs.Address.{global_of}
+use Rattle.spur_flat.specs.declared.flat.Flat.{Flat}
 use Rattle.spur_flat.specs.declared.access.AccessKind.{AccessKind}
 use Rattle.spur_flat.specs.declared.access.FaultKind.{FaultKind}
 use Rattle.spur_flat.specs.declared.access.FaultKind.TheVariants as fault
@@ -21,17 +25,23 @@ use Rattle.spur_flat.specs.Untold.{IsLegalButValues}
 use Rattle.spur_cpu.specs.declared.cpu.Want.TheVariants.{Access}
 use Rattle.spur_cpu.specs.Meaning.{Meaning}
 use Rattle.spur_cpu.specs.After.{IsLed, begun}
+use Rattle.spur_plain.specs.Invisible.{IsInvisible, IsInvisibleButValues}
+use Rattle.spur_plain.specs.PlainMemory.{PlainMemory}
+use Rattle.spur_plain.specs.Runs.{IsPlainBoard}
+use Rattle.spur_plain.specs.Virtual.{virtual}
 use Rattle.spur_core.specs.Start.{Start, opened_state}
 use Rattle.spur_core.specs.Step.{Runner, is_out}
 
 -- what came of a run: the history, how each board came out, the words of memory at the end, the pages of the swap at
--- the end where it tells them, and how many faults the swap has counted then
+-- the end where it tells them, how many faults the swap has counted then, and, where a probe stopped the run, the
+-- number of the entry at which it did
 pub record Run (S : Type 0) : Type 0 where
   pub history : List Entry
   pub boards : List (Runner S)
   pub memory : List ℕ
   pub swap : Option (List ℕ)
   pub faults : ℕ
+  pub stop : Option ℕ
 
 -- ---- one machine
 
@@ -55,6 +65,15 @@ pub record IsOneMachineUntold (from : State) (history : List Entry) (memory : Li
 abbrev pub IsOfOneMachine : State → List Entry → List ℕ → Option (List ℕ) → Type 0
 IsOfOneMachine from history memory (Some swap) = IsOneMachine from history memory swap
 IsOfOneMachine from history memory None = IsOneMachineUntold from history memory
+
+-- ---- plain memory
+
+-- Paging is invisible. Without the entries of the bus and of the pager, and without the faults that are served, a history is
+-- one of the plain machine, and leads from the plain memory of its beginning to that of the flat state after it. Where the
+-- swap does not tell its pages, this is so but for the values that were read.
+abbrev pub IsOnPlainMemory : Flat → List Entry → Option (List ℕ) → Type 0
+IsOnPlainMemory F history (Some swap) = IsInvisible F history
+IsOnPlainMemory F history None = IsInvisibleButValues F history
 
 -- ---- each board's program
 
@@ -91,9 +110,10 @@ module _ {S : Type 0} (m : Meaning S) where
     pub wants : m.wants board.course.cpu ≡ Access access va value
     pub standing : board.course.ending ≡ None
 
-  -- endings: every board has ended, and the swap has ended at most as many as its faults were counted
+  -- endings: every board has ended where no probe stopped the run, and the swap has ended at most as many as its faults
+  -- were counted
   pub record HaveEndings (start : Start S) (run : Run S) : Type 0 where
-    pub all : AllAreOut run.boards
+    pub all : IfNone run.stop (AllAreOut run.boards)
     pub swapped : (i : ℕ) (board : Runner S) → slice_get run.boards i ≡ Some board → board.swapped ≡ true
         → IsStoppedBySwap i (own_entries run.history i) board
     pub few : length (filter (λ board. board.swapped) run.boards) + start.faults ≤ run.faults
@@ -105,3 +125,18 @@ module _ {S : Type 0} (m : Meaning S) where
     pub machine : IsOfOneMachine (opened_state start) run.history run.memory run.swap
     pub order : IsInProgramOrder start run.history run.boards
     pub endings : HaveEndings start run
+
+  -- ---- each board's program on plain memory
+
+  -- Each board is where its program comes on plain memory: by its accesses that are done, and, where a fault has ended it, by
+  -- that one fault, which is the plain machine's answer.
+  abbrev pub AreBoardsOnPlainMemory : Start S → List Entry → List (Runner S) → Type 0
+  AreBoardsOnPlainMemory start history boards = (i : ℕ) (first : S) (board : Runner S)
+      → slice_get start.firsts i ≡ Some first → slice_get boards i ≡ Some board
+      → IsPlainBoard m (virtual start.flat) history i board.segs board.budget first board.course board.course.retired
+
+  -- a run as one that begins with this plain memory, whatever frames and lines there are
+  pub record IsRunOnPlainMemory (memory : PlainMemory) (start : Start S) (run : Run S) : Type 0 where
+    pub begins : virtual start.flat ≡ memory
+    pub history : IsOnPlainMemory start.flat run.history run.swap
+    pub boards : AreBoardsOnPlainMemory start run.history run.boards

@@ -1,6 +1,8 @@
 pub mod Statuses
 pub mod Texts
+pub mod PlainMemory
 pub mod Headline
+pub mod Probes
 pub mod Runs
 pub mod Reports
 pub mod Accepted

@@ -4,11 +4,15 @@
 //! trace of a run; writes the object of a text; or generates a text. `main` stands in a crate of its own above.
 #![tactic(auto)]
 
+mod answers;
+mod commands;
 mod plain;
+mod probes;
 mod report;
 mod run;
 mod text;
+mod threads;
 mod top;
 
 pub use report::{Outcome, Status};
-pub use top::spur_alone;
+pub use top::{spur, spur_alone};

@@ -1,30 +1,42 @@
 //! Runs of plain processors: one for each board's code, and a row of the report for each board.
 
-ghost use Rattle.std.specs.Prelude.{◌≡◌, ◌≤◌, IfErr, IfOk, IsSome, length, map};
-ghost use Rattle.std.specs.List.{All};
-ghost use Rattle.spur_check.specs.Judged.{judged};
-ghost use Rattle.spur_check.specs.declared.verdict.Verdict.TheVariants.{Good};
+ghost use Rattle.std.specs.Prelude.{◌≡◌, ◌≤◌, IfErr, IfOk, map};
 ghost use Rattle.spur_core.specs.Loaded.{AreAtBeginning};
-ghost use Rattle.spur_flat.specs.WellFormed.{IsWellFormed};
 ghost use Rattle.spur_input.specs.Program.{IsLoadedOpening};
 ghost use Rattle.spur_loader.specs.Opening.{board_count};
-ghost use Rattle.spur_trace.specs.Formed.{IsHead};
+ghost use Rattle.spur_probe.specs.Shown.{told};
+ghost use Rattle.spur_program.specs.Reports.{IsPrepared, IsReportFrom, IsReportedRun, head_of, report_row};
 ghost use Rattle.spur_program.specs.Runs.{HasFailedAtStart};
-ghost use Rattle.spur_program.specs.Reports.{IsReportFrom, IsReportOf, head_of, report_row};
 ghost use Rattle.spur_program.specs.declared.run.RunFault.TheVariants.{SwapAtStart};
 
-use crate::run::{Finished, NotFinished, RunFault, run};
+use crate::probes::Seen;
+use crate::run::{Finished, NotFinished, RunFault, run_alone};
+use crate::threads::run_on_threads;
 use spur_board::Board;
 use spur_cpu::PlainCpu;
 use spur_isa::Instr;
 use spur_list::Items;
 use spur_loader::Opening;
 use spur_pager::Store;
+use spur_probe::Probe;
 use spur_report::{BoardReport, Report};
 use spur_swap::Backing;
+use spur_threads::Gate;
 use spur_trace::TraceHead;
-use spur_words::Order;
+use spur_words::{Order, Schedule};
 use std::alloc::{AllocError, Global};
+use std::sync::Wait;
+use std::thread::Threads;
+
+/// What is made ready for a run of the codes of an opening.
+pub struct Prepared {
+    /// What the run's trace says of itself in its first line.
+    pub head: TraceHead,
+    /// The opening, without its codes.
+    pub opening: Opening,
+    /// A processor for each code, at its beginning.
+    pub cpus: Vec<PlainCpu>,
+}
 
 /// A report of a run, and the swap as the run left it.
 #[derive(Debug)]
@@ -88,7 +100,11 @@ fn report_of<B>(
     ensures report { IfOk result (IsReportFrom head ran) }
     ensures fault { IfErr result (λ r. r.fault ≡ RunFault.NoMemory) }
 {
-    let Finished { boards, store } = ran;
+    let Finished {
+        boards,
+        store,
+        seen,
+    } = ran;
     let Store {
         phys,
         frames: _,
@@ -102,35 +118,22 @@ fn report_of<B>(
             backing,
         });
     };
+    let Seen { stopped, lines } = seen;
     let report = Report {
         boards: Items::from_vec(boards),
         history: Items::from_vec(history.into_vec()),
         last: Items::from_vec(phys.into_words()),
+        stopped,
+        lines: Items::from_vec(lines),
         head,
     };
     Ok(Reported { report, backing })
 }
 
-/// Runs the codes of an opening to their ends, in this order, and reports what came of it. The trace of the report may
-/// be written, and is judged good where the swap tells its pages.
-///
-/// `SwapAtStart` comes only where the swap's count of faults rose before the run, and no page was read then. Else the
-/// error is want of memory.
-pub fn run_plain<B: Backing>(
-    alloc: Global,
-    opening: Opening,
-    backing: B,
-    order: Order,
-) -> Result<Reported<B>, NotFinished<B>>
+/// What is made ready for a run of the codes of an opening. The error is want of memory.
+fn make_ready(alloc: Global, opening: Opening) -> Result<Prepared, AllocError>
     requires { IsLoadedOpening opening }
-    ensures report { IfOk result (λ done.
-        IsReportOf opening order (B.meaning backing) (B.meaning done.backing) done.report) }
-    ensures head { IfOk result (λ done. IsHead done.report.head) }
-    ensures entries { IfOk result (λ done. All (IsWellFormed done.report.head.boards) done.report.history) }
-    ensures good { IfOk result (λ done. IsSome (B.meaning done.backing).pages
-        → judged opening done.report.history ≡ Good (length done.report.history)) }
-    ensures refused { IfErr result (λ r.
-        r.fault ≡ SwapAtStart → HasFailedAtStart (B.meaning backing) (B.meaning r.backing)) }
+    ensures { IfOk result (IsPrepared opening) }
 {
     let head = head_of(&opening);
     let Opening {
@@ -139,18 +142,89 @@ pub fn run_plain<B: Backing>(
         code,
         options,
     } = opening;
-    let Ok(cpus) = processors(alloc, code, options.budget) else {
-        return Err(NotFinished {
-            fault: RunFault::NoMemory,
-            backing,
-        });
-    };
+    let cpus = processors(alloc, code, options.budget)?;
     let opening = Opening {
         flat,
         segs,
         code: Items::new(alloc),
         options,
     };
-    let ran = run(alloc, opening, cpus, backing, order)?;
+    Ok(Prepared {
+        head,
+        opening,
+        cpus,
+    })
+}
+
+/// A run that was not begun for want of memory.
+fn not_prepared<B>(backing: B) -> NotFinished<B>
+    ensures { result.fault ≡ RunFault.NoMemory }
+{
+    NotFinished {
+        fault: RunFault::NoMemory,
+        backing,
+    }
+}
+
+/// Runs the codes of an opening by this schedule, to their ends or until a probe stops them, and reports
+/// what came of it. The trace of the report may be written, and is judged good where the swap tells its pages.
+///
+/// `SwapAtStart` comes only where the swap's count of faults rose before the run, and no page was read then. Else the
+/// error is want of memory.
+pub fn run_plain<B: Backing>(
+    alloc: Global,
+    opening: Opening,
+    backing: B,
+    schedule: Schedule,
+    probes: Vec<Box<dyn Probe>>,
+) -> Result<Reported<B>, NotFinished<B>>
+    requires { IsLoadedOpening opening }
+    ensures reported { IfOk result (λ done. IsReportedRun opening (Order.Scheduled schedule)
+        (map (λ b. told (rule b) (reads b) (kept b)) probes.items)
+        (B.meaning backing) (B.meaning done.backing) done.report) }
+    ensures refused { IfErr result (λ r.
+        r.fault ≡ SwapAtStart → HasFailedAtStart (B.meaning backing) (B.meaning r.backing)) }
+{
+    let Ok(ready) = make_ready(alloc, opening) else {
+        return Err(not_prepared(backing));
+    };
+    let Prepared {
+        head,
+        opening,
+        cpus,
+    } = ready;
+    let ran = run_alone(alloc, opening, cpus, backing, schedule, probes)?;
+    report_of(alloc, head, ran)
+}
+
+/// Runs the codes of an opening to their ends, each board's on a thread of its own where one can be made, and reports
+/// what came of it. The trace of the report may be written, and is judged good where the swap tells its pages.
+///
+/// `SwapAtStart` comes only where the swap's count of faults rose before the run, and no page was read then. Else the
+/// error is want of memory.
+pub fn run_plain_on_threads<B: Backing + Send, G: Gate + Sync, R: Threads + Wait + Sync>(
+    rt: &R,
+    alloc: Global,
+    opening: Opening,
+    backing: B,
+    gate: &G,
+    probes: Vec<Box<dyn Probe>>,
+) -> Result<Reported<B>, NotFinished<B>>
+    requires { IsLoadedOpening opening }
+    ensures reported { IfOk result (λ done. IsReportedRun opening Order.Threads
+        (map (λ b. told (rule b) (reads b) (kept b)) probes.items)
+        (B.meaning backing) (B.meaning done.backing) done.report) }
+    ensures refused { IfErr result (λ r.
+        r.fault ≡ SwapAtStart → HasFailedAtStart (B.meaning backing) (B.meaning r.backing)) }
+{
+    let Ok(ready) = make_ready(alloc, opening) else {
+        return Err(not_prepared(backing));
+    };
+    let Prepared {
+        head,
+        opening,
+        cpus,
+    } = ready;
+    let ran = run_on_threads(rt, alloc, opening, cpus, backing, gate, probes)?;
     report_of(alloc, head, ran)
 }

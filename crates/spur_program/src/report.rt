@@ -9,10 +9,10 @@ use spur_report::Report;
 /// How a call of the program ended. The program's exit status is its number.
 #[derive(Clone, Copy, Debug, PartialEq, Eq)]
 pub enum Status {
-    /// 0: the command was done; where boards were run each of them halted, and where a trace was judged the verdict is
-    /// good.
+    /// 0: the command was done; where boards were run each of them halted and no probe stopped the run, and where a
+    /// trace was judged the verdict is good.
     Fine,
-    /// 1: some board's ending is another, or the verdict is bad.
+    /// 1: some board's ending is another and no probe stopped the run, or the verdict is bad.
     Ended,
     /// 2: the words of the command line are not of the table.
     Words,
@@ -24,6 +24,8 @@ pub enum Status {
     WriteFault,
     /// 6: the swap failed before the run, when it was made ready.
     SwapAtStart,
+    /// 7: a probe stopped the run, at the entry that the report names.
+    Stopped,
     /// 9: want of memory.
     NoMemory,
 }
@@ -41,6 +43,7 @@ impl Status {
             Status::ReadFault => 4,
             Status::WriteFault => 5,
             Status::SwapAtStart => 6,
+            Status::Stopped => 7,
             Status::NoMemory => 9,
         }
     }
@@ -51,8 +54,8 @@ impl Status {
 pub struct Outcome<B> {
     /// How the call ended.
     pub status: Status,
-    /// What came of a run: given where the boards were run to their ends and memory was not wanting for it, also
-    /// where it could not be written.
+    /// What came of a run: given where the boards were run to their ends, or up to a probe's stop, and memory was not
+    /// wanting for it, also where it could not be written.
     pub report: Option<Report>,
     /// What a trace was judged: given where it was, also where the verdict could not be written.
     pub verdict: Option<Verdict>,

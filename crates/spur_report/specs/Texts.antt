@@ -7,6 +7,7 @@ use Rattle.spur_flat.specs.declared.access.FaultKind.{FaultKind}
 use Rattle.spur_flat.specs.declared.entry.Entry.{Entry}
 use Rattle.spur_board.specs.declared.ending.Ending.{Ending}
 use Rattle.spur_board.specs.declared.ending.Ending.TheVariants.{Halted, Faulted, Spent, SwapFault}
+use Rattle.spur_probe.specs.declared.probe.ProbeLine.{ProbeLine}
 use Rattle.spur_text.specs.Digits.{address_digits, word_digits}
 use Rattle.spur_text.specs.Line.{feed, line_of}
 use Rattle.spur_text.specs.Words.{fault_word}
@@ -54,6 +55,23 @@ abbrev pub rows_text : List ℕ → ℕ → List BoardReport → List ℕ
 rows_text what number [] = []
 rows_text what number (row ∷ more) = row_text what number row ++ rows_text what (number + 1) more
 
+-- the line that says where a probe stopped the run: the entry's number, and the probe's
+abbrev pub stop_line : ℕ → ℕ → List ℕ
+stop_line entry probe = codes "stopped " ++ decimal entry ++ codes " " ++ decimal probe ++ feed
+
+abbrev pub stop_text : Option (ℕ × ℕ) → List ℕ
+stop_text None = []
+stop_text (Some stop) = stop_line stop.0 stop.1
+
+-- the line of a probe: its number in the list, and the number that it tells
+abbrev pub probe_line : ℕ → ProbeLine → List ℕ
+probe_line number line = codes "probe " ++ decimal number ++ codes " " ++ decimal line.number ++ feed
+
+-- the lines of probes that are counted from a number
+abbrev pub probes_text : ℕ → List ProbeLine → List ℕ
+probes_text number [] = []
+probes_text number (line ∷ more) = probe_line number line ++ probes_text (number + 1) more
+
 -- the line of a count: its name, and how many entries pass its test
 abbrev pub count_line : List Entry → Count → List ℕ
 count_line entries c = line_of (c.name ∷ decimal (number_of entries c) ∷ [])
@@ -87,9 +105,12 @@ part_if asked part = if asked then part else []
 unfoldable pub boards_text : Report → List ℕ
 boards_text report = rows_text (codes "board") 0 report.boards
 
--- the lines of a report: a row for each board, and the counts where they are asked for
+-- the lines of a report: where a probe stopped the run, a row for each board, a line for each probe, and the counts where
+-- they are asked for
 abbrev pub lines_text : Report → Bool → List ℕ
-lines_text report counts = boards_text report ++ part_if counts (counts_text report.history)
+lines_text report counts =
+    stop_text report.stopped ++ boards_text report ++ probes_text 0 report.lines
+    ++ part_if counts (counts_text report.history)
 
 -- the text of a report: its lines, and the trace of its history where it is asked for
 abbrev pub report_text : Report → Flags → List ℕ

@@ -3,12 +3,13 @@
 use spur_board::Ending;
 use spur_flat::Entry;
 use spur_list::Items;
+use spur_probe::ProbeLine;
 use spur_trace::TraceHead;
 
 /// What a report says of one board.
 #[derive(Debug, Drop)]
 pub struct BoardReport {
-    /// The board's ending. Every board of a run that is reported has one.
+    /// The board's ending. It has none only where a probe stopped the run before its end.
     pub ending: Option<Ending>,
     /// How many instructions it completed, `halt` among them. A faulting one does not count.
     pub retired: u32,
@@ -28,6 +29,11 @@ pub struct Report {
     /// The words of memory at the end, when every cache was written back: frames 0 to 63 hold the root table, then come
     /// the pages of the page table, and then the data frames. What the swap holds at the end stays in the swap object.
     pub last: Items<u32>,
+    /// Where a probe stopped the run: the number of the entry at which it wished that, counted from 1, and the place of the
+    /// probe in the list of those that were handed in, from 0. A place above 2^32 - 1 is told as 2^32 - 1.
+    pub stopped: Option<(u64, u32)>,
+    /// What each probe tells, in the order of that list.
+    pub lines: Items<ProbeLine>,
     /// What a trace of the history says of itself in its first line.
     pub head: TraceHead,
 }

@@ -3,6 +3,7 @@
 use crate::{BoardReport, Flags, Report, text};
 use spur_board::Ending;
 use spur_list::Items;
+use spur_probe::ProbeLine;
 use spur_trace::{read_head, read_trace};
 use std::alloc::{AllocError, Global};
 use std::test::Fail;
@@ -72,6 +73,8 @@ fn a_report_has_these_texts(rt: HostRuntime) -> Result<(), Fail> {
         boards: halted(alloc)?,
         history: Items::from_vec(history),
         last: Items::new(alloc),
+        stopped: None,
+        lines: Items::new(alloc),
         head,
     };
     let rows = [
@@ -85,5 +88,35 @@ fn a_report_has_these_texts(rt: HostRuntime) -> Result<(), Fail> {
         let wanted = format!(in alloc; "{first}{second}{third}")?;
         assert_eq!(rt; written.as_slice(), wanted.as_bytes());
     }
+    Ok(())
+}
+
+#[test]
+fn a_report_tells_of_probes(rt: HostRuntime) -> Result<(), Fail> {
+    let alloc = rt.alloc();
+    let Ok(head) = read_head(TRACE.as_bytes()) else {
+        return Err(Fail::from("no trace"));
+    };
+    let mut boards = halted(alloc)?.into_vec();
+    for board in boards.as_mut_slice() {
+        board.ending = None;
+    }
+    let lines = vec![in alloc; ProbeLine { number: 11 }, ProbeLine { number: 1 }]?;
+    let report = Report {
+        boards: Items::from_vec(boards),
+        history: Items::new(alloc),
+        last: Items::new(alloc),
+        stopped: Some((11, 1)),
+        lines: Items::from_vec(lines),
+        head,
+    };
+    let flags = Flags {
+        counts: false,
+        trace: false,
+    };
+    let written = text(alloc, &report, &flags)?;
+    let board = LINES.replace(alloc, "halted", "running")?;
+    let wanted = format!(in alloc; "stopped 11 1\n{board}probe 0 11\nprobe 1 1\n")?;
+    assert_eq!(rt; written.as_slice(), wanted.as_bytes());
     Ok(())
 }

@@ -6,19 +6,22 @@ ghost use Rattle.spur_flat.specs.WellFormed.{HasWord, IsWellFormed};
 ghost use Rattle.spur_trace.specs.Formed.{IsHead};
 ghost use Rattle.spur_trace.specs.Line.{trace_text};
 ghost use Rattle.spur_report.specs.Counts.{counts_of};
-ghost use Rattle.spur_report.specs.Texts.{boards_text, counts_text, ending_line, ending_text, fault_text, lines_from, lines_text, name_at, named_line, part_if, registers_line, report_text, row_text, rows_text, shown_line, spaced_word};
+ghost use Rattle.spur_report.specs.Texts.{boards_text, counts_text, ending_line, ending_text, fault_text, lines_from, lines_text, name_at, named_line, part_if, probe_line, probes_text, registers_line, report_text, row_text, rows_text, shown_line, spaced_word, stop_line, stop_text};
 
 use crate::report::{BoardReport, Flags, Report};
 use crate::tally::{EntryCounts, counts};
 use spur_addr::GlobalAddr;
 use spur_board::Ending;
 use spur_flat::{Entry, FaultKind};
+use spur_probe::ProbeLine;
 use spur_text::{Text, address_digits, fault_word, put, word_digits};
 use spur_trace::{TraceHead, put_trace, trace_room};
 use std::alloc::{AllocError, Global};
 
-/// The text of a report: the lines of each board, in the order of the board numbers, which are counted from 0; where its flag
-/// is set, a line for the count of each kind of entry; and where its flag is set, the trace of the history.
+/// The text of a report: where a probe stopped the run, a line with the entry's number, from 1, and the probe's, from 0; the
+/// lines of each board, in the order of the board numbers, which are counted from 0; a line for each probe with the number
+/// that it tells; where its flag is set, a line for the count of each kind of entry; and where its flag is set, the trace of
+/// the history.
 ///
 /// A board has a line for its ending and the number of instructions that it completed, one for its registers, and one for
 /// each value that it showed. Each line is ended by a line feed. The head is in its ranges, and the entries are well formed
@@ -40,7 +43,7 @@ pub fn text(alloc: Global, report: &Report, flags: &Flags) -> Result<Vec<u8>, Al
     )
 }
 
-/// The lines of the boards, and those of the counts where they are asked for.
+/// The lines of a stop, of the boards and of the probes, and those of the counts where they are asked for.
 fn lines_of(alloc: Global, report: &Report, counts: bool) -> Result<Vec<u8>, AllocError>
     ensures { IfOk result (λ lines. lines.items ≡ lines_text report.now counts) }
 {
@@ -49,7 +52,7 @@ fn lines_of(alloc: Global, report: &Report, counts: bool) -> Result<Vec<u8>, All
     Ok(lines)
 }
 
-/// Writes the lines of the boards, and those of the counts where they are asked for.
+/// Writes the lines of a stop, of the boards and of the probes, and those of the counts where they are asked for.
 fn put_lines(
     alloc: Global,
     out: &mut Vec<u8>,
@@ -58,8 +61,52 @@ fn put_lines(
 ) -> Result<(), AllocError>
     ensures { OnOk result (out.new.items ≡ out.old.items ++ lines_text report.now counts) }
 {
+    put_stop(alloc, out, report.stopped)?;
     put_boards(alloc, out, report)?;
+    put_probes(alloc, out, report.lines.as_slice())?;
     put_counts_if(alloc, out, counts, report.history.as_slice())
+}
+
+/// Writes the line that says where a probe stopped the run, where one did.
+fn put_stop(alloc: Global, out: &mut Vec<u8>, stopped: Option<(u64, u32)>) -> Result<(), AllocError>
+    ensures { OnOk result (out.new.items ≡ out.old.items ++ stop_text stopped) }
+{
+    match stopped {
+        Some((entry, probe)) => put_stop_line(alloc, out, entry, probe),
+        None => Ok(()),
+    }
+}
+
+/// Writes the line of a stop: the entry's number, and the probe's.
+fn put_stop_line(alloc: Global, out: &mut Vec<u8>, entry: u64, probe: u32) -> Result<(), AllocError>
+    ensures { OnOk result (out.new.items ≡ out.old.items ++ stop_line entry probe) }
+{
+    let line = format!(in alloc; "stopped {entry} {probe}\n")?;
+    put(out, line.as_bytes())
+}
+
+/// Writes a line for each probe. They are counted from 0.
+fn put_probes(alloc: Global, out: &mut Vec<u8>, lines: &[ProbeLine]) -> Result<(), AllocError>
+    ensures { OnOk result (out.new.items ≡ out.old.items ++ probes_text 0 lines.now) }
+{
+    for (number, line) in lines.iter().enumerate() {
+        put_probe(alloc, out, number, line)?;
+    }
+    Ok(())
+}
+
+/// Writes the line of a probe.
+fn put_probe(
+    alloc: Global,
+    out: &mut Vec<u8>,
+    number: usize,
+    line: &ProbeLine,
+) -> Result<(), AllocError>
+    ensures { OnOk result (out.new.items ≡ out.old.items ++ probe_line number line.now) }
+{
+    let told = line.number;
+    let line = format!(in alloc; "probe {number} {told}\n")?;
+    put(out, line.as_bytes())
 }
 
 /// Writes the lines of the boards.

@@ -3,4 +3,3 @@ pub mod StepFacts
 pub mod LeftFacts
 pub mod ShowingFacts
 pub mod FollowFacts
-pub mod RoundFacts

@@ -86,14 +86,20 @@ pub record IsInLast (number : ℕ) (entries : List Entry) (picks : List Pick) : 
   pub behind : length earlier < number
   pub within : number ≤ length entries
 
--- What a schedule adds to a history: it is followed, from the boards as they stood to the boards as they stand; the
--- entries that it adds are those of its picks, one behind the other; where a probe stopped it, at the entry with this
--- number among those, it ends with the pick whose entry that is; and there are at most so many picks.
-pub record IsScheduled {C S : Type 0} (m : Meaning S) (state : C → S) (start most : ℕ) (stop : Option ℕ)
-    (before after : List Entry) (olds news : List (Board C)) : Type 0 where
+-- The entries stand in the order of the picks. Where a probe stopped the schedule, at the entry with this number among
+-- them, the last pick is the one whose entry that is.
+pub record StandInOrder (stop : Option ℕ) (entries : List Entry) (picks : List Pick) : Type 0 where
+  pub order : AreInOrder entries picks
+  pub stopped : IfSome stop (λ number. IsInLast number entries picks)
+
+-- What a schedule adds to a history: it is followed, from the boards as they stood to the boards as they stand, by the
+-- boards' own entries among those that are added; and there are at most so many picks. Where the logs are joined after
+-- each step, the entries stand in the order of the picks. Where they are joined late, nothing is said of the order
+-- between boards.
+pub record IsScheduled {C S : Type 0} (m : Meaning S) (state : C → S) (start : ℕ) (late : Bool) (most : ℕ)
+    (stop : Option ℕ) (before after : List Entry) (olds news : List (Board C)) : Type 0 where
   pub entries : List Entry
   pub history : after ≡ before ++ entries
   pub followed : IsFollowed m start stop (runners_of m state olds) (own_entries entries) (runners_of m state news)
-  pub order : AreInOrder entries followed.picks
-  pub stopped : IfSome stop (λ number. IsInLast number entries followed.picks)
+  pub in_order : late ≡ false → StandInOrder stop entries followed.picks
   pub few : length followed.picks ≤ most

@@ -1,4 +1,4 @@
 pub mod Picks
+pub mod Steps
 pub mod Shown
 pub mod Followed
-pub mod Rounds

@@ -1,6 +1,5 @@
 -- How the schedule picks boards.
-use Rattle.std.specs.Prelude.{ℕ, ◌≡◌, ◌+◌, ◌*◌, ◌/◌, ◌%◌, ◌^◌, Bool, true, false, List, [], ◌∷◌, ◌++◌, length, is_some, map, slice_get, Option}
-use Rattle.spur_flat.specs.declared.entry.Entry.{Entry}
+use Rattle.std.specs.Prelude.{ℕ, ◌+◌, ◌*◌, ◌/◌, ◌%◌, ◌^◌, Bool, true, false, List, [], ◌∷◌, length, is_some, map, slice_get, Option}
 use Rattle.spur_board.specs.declared.board.Board.{Board}
 
 -- the number after a number
@@ -24,8 +23,3 @@ picked_board x boards = slice_get boards ((x / 2 ^ 33) % length boards)
 -- whether each board has ended
 abbrev pub are_out : {C : Type 0} → List (Board C) → List Bool
 are_out boards = map (λ b. is_some b.ended) boards
-
--- a history goes on from another
-pub record IsPrefix (before after : List Entry) : Type 0 where
-  pub more : List Entry
-  pub is : after ≡ before ++ more

@@ -1,19 +1,18 @@
 //! A whole schedule.
 
-ghost use Rattle.std.specs.Prelude.{◌≡◌, ◌<◌, ◌+◌, ◌*◌, ◌^◌, IfOk, OnErr, OnOk, Some, length};
+ghost use Rattle.std.specs.Prelude.{◌≡◌, ◌<◌, ◌+◌, ◌-◌, ◌*◌, ◌^◌, ◌≤◌, IfOk, IfSome, OnErr, OnOk, length, map};
 ghost use Rattle.spur_core.specs.Boards.{LogsAreEmpty};
-ghost use Rattle.spur_core.specs.World.{IsGoodWorld};
-ghost use Rattle.spur_probe.specs.Shown.{told};
+ghost use Rattle.spur_core.specs.World.{IsGoodWorld, IsMerged, IsPrefix};
+ghost use Rattle.spur_probe.specs.Shown.{after_entries, first_stop, told};
 ghost use Rattle.spur_sched.specs.Followed.{IsScheduled};
-ghost use Rattle.spur_sched.specs.Picks.{IsPrefix};
-ghost use Rattle.spur_sched.specs.Shown.{IsShown, IsShownInPart, added, ran_by, stop_of};
+ghost use Rattle.spur_sched.specs.Shown.{IsShown, IsShownInPart, added, numbered_behind, ran_by, stopped_entry};
 
 use crate::picking::{next, pick};
 use crate::show::show_new;
 use crate::step::take_step;
 use spur_core::World;
 use spur_cpu::Cpu;
-use spur_probe::{Probe, Stop};
+use spur_probe::{Probe, StopAt};
 use spur_swap::Backing;
 use std::alloc::AllocError;
 
@@ -36,13 +35,19 @@ pub enum Ran {
 ///
 /// The state is a number, first `start`. A step makes it `state * 6364136223846793005 + 1442695040888963407` modulo
 /// 2^64, and picks one of the boards that have not ended: of `m` of them, in ascending order, the one at position
-/// `(state >> 33) mod m`. That board takes one instruction, on the bus where it cannot take it alone, and its entries
-/// are put into the history. The schedule is this project's own. All logs are empty before and after.
+/// `(state >> 33) mod m`. That board takes one instruction, on the bus where it cannot take it alone. Its entries are
+/// put into the history after the step; or, with `late`, those of instructions that a board took alone stay in its log
+/// until the next turn of any board on the bus, or the end, joins all logs to the history in board order. The schedule
+/// is this project's own. All logs are empty before, and after it unless memory was wanting.
 ///
-/// After each step the entries that it added are shown to the probes, entry by entry, and each in the order of the
-/// list. The first wish to stop ends the run. `Stopped` comes exactly then, and tells the entry and the probe. The
-/// entries behind it are shown to no probe, and stay in the history; nor is the entry shown to the probes behind that
-/// one. No probe's rule changes, nor how its number is read.
+/// So with `late` the history is no order in time: an entry that a board logged may stand behind one that a board of a
+/// lesser number logged later, and before one that a board of a greater number logged earlier. It is lawful all the
+/// same.
+///
+/// After each step the entries that the history has more are shown to the probes, entry by entry, and each in the order
+/// of the list; so are those that are joined at the end. The first wish to stop ends the run. `Stopped` comes exactly
+/// then, and tells the entry and the probe. The entries behind it are shown to no probe, and stay in the history; nor is
+/// the entry shown to the probes behind that one. No probe's rule changes, nor how its number is read.
 ///
 /// There are at most `boards * (budget + 1)` steps, since each completes an instruction or ends a board. A step costs
 /// that of the boards beside its instruction, its turn on the bus and its entries, which are shown where they stand.
@@ -51,6 +56,7 @@ pub enum Ran {
 pub fn run_schedule<C: Cpu, B: Backing>(
     world: &mut World<C, B>,
     start: u64,
+    late: bool,
     probes: &mut Vec<Box<dyn Probe>>,
 ) -> Result<Ran, AllocError>
     requires good { IsGoodWorld C.meaning C.state C.room B.meaning world.old }
@@ -60,39 +66,70 @@ pub fn run_schedule<C: Cpu, B: Backing>(
     ensures prefix { IsPrefix world.old.store.history.entries world.new.store.history.entries }
     ensures empty { OnOk result (LogsAreEmpty world.new.boards.items) }
     ensures shown { IfOk result (IsShown
-        (λ b. told (rule b) (reads b) ((⟦<dyn Probe as Probe>⟧ b.vtable).state b.value))
+        (λ b. told (rule b) (reads b) (kept b))
         (added world.old.store.history.entries world.new.store.history.entries) probes.old.items probes.new.items) }
     ensures shown_in_part { OnErr result (IsShownInPart
-        (λ b. told (rule b) (reads b) ((⟦<dyn Probe as Probe>⟧ b.vtable).state b.value))
+        (λ b. told (rule b) (reads b) (kept b))
         (added world.old.store.history.entries world.new.store.history.entries) probes.old.items probes.new.items) }
-    ensures followed { IfOk result (λ ran. IsScheduled C.meaning C.state start
-        (length world.old.boards.items * (world.old.beginning.opening.value.options.budget + 1)) (stop_of ran)
+    ensures followed { IfOk result (λ ran. IsScheduled C.meaning C.state start late
+        (length world.old.boards.items * (world.old.beginning.opening.value.options.budget + 1)) (stopped_entry ran)
         world.old.store.history.entries world.new.store.history.entries world.old.boards.items world.new.boards.items) }
 {
     let first = world.history().len();
     let mut state = start;
     loop {
         state = next(state);
+        let seen = world.history().len();
         match pick(&world.boards, state) {
-            None => return Ok(Ran::Done),
+            None => return end_run(world, first, probes),
             Some(b) => {
-                let seen = world.history().len();
-                take_step(world, b)?;
+                take_step(world, b, late)?;
                 if let Some(stop) = show_new(probes, &world.history()[seen..]) {
-                    return Ok(stopped(seen - first, stop));
+                    return Ok(ended_by(seen - first, Some(stop)));
                 }
             }
         }
     }
 }
 
-/// The answer of a run that a probe stopped, where so many entries had been shown before the step.
-fn stopped(shown: usize, stop: Stop) -> Ran
-    requires few { shown + stop.entry + 1 < 2 ^ 64 }
-    ensures { result ≡ ran_by (Some (record { entry = shown + stop.entry + 1; probe = stop.probe })) }
+/// Joins what stands in logs to the history, shows it to the probes, and tells how the run ends that began where the
+/// history had `first` entries. `AllocError` comes only for want of memory, and all is as it was then.
+fn end_run<C: Cpu, B: Backing>(
+    world: &mut World<C, B>,
+    first: usize,
+    probes: &mut Vec<Box<dyn Probe>>,
+) -> Result<Ran, AllocError>
+    requires good { IsGoodWorld C.meaning C.state C.room B.meaning world.old }
+    requires first { first ≤ length world.old.store.history.entries }
+    ensures good { IsGoodWorld C.meaning C.state C.room B.meaning world.new }
+    ensures beginning { world.new.beginning ≡ world.old.beginning }
+    ensures merged { OnOk result (IsMerged world.old world.new) }
+    ensures moved { OnOk result (map (λ b. told (rule b) (reads b) (kept b)) probes.new.items ≡ after_entries
+        (added world.old.store.history.entries world.new.store.history.entries)
+        (map (λ b. told (rule b) (reads b) (kept b)) probes.old.items)) }
+    ensures ended { IfOk result (λ ran. ran ≡ ran_by (numbered_behind (length world.old.store.history.entries - first)
+        (first_stop 0 (added world.old.store.history.entries world.new.store.history.entries)
+        (map (λ b. told (rule b) (reads b) (kept b)) probes.old.items)))) }
+    ensures world { OnErr result (world.new ≡ world.old) }
+    ensures unshown { OnErr result (probes.new ≡ probes.old) }
 {
-    Ran::Stopped {
-        entry: (shown + stop.entry + 1) as u64,
-        probe: stop.probe.min(u32::MAX as usize) as u32,
+    let seen = world.history().len();
+    world.merge()?;
+    let stop = show_new(probes, &world.history()[seen..]);
+    Ok(ended_by(seen - first, stop))
+}
+
+/// How a run ends, where so many entries were shown before the last ones, and perhaps a probe wished a stop at one of
+/// these.
+fn ended_by(shown: usize, stop: Option<StopAt>) -> Ran
+    requires few { IfSome stop (λ stop. shown + stop.entry + 1 < 2 ^ 64) }
+    ensures { result ≡ ran_by (numbered_behind shown stop) }
+{
+    match stop {
+        None => Ran::Done,
+        Some(stop) => Ran::Stopped {
+            entry: (shown + stop.entry + 1) as u64,
+            probe: stop.probe.min(u32::MAX as usize) as u32,
+        },
     }
 }

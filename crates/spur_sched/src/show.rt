@@ -4,11 +4,11 @@ ghost use Rattle.std.specs.Prelude.{◌≡◌, map};
 ghost use Rattle.spur_probe.specs.Shown.{after_entries, after_entry, first_stop, stopped_at, told};
 
 use spur_flat::Entry;
-use spur_probe::{Probe, Stop, Wish};
+use spur_probe::{Probe, StopAt, Wish};
 
 /// Shows one entry to one probe.
 fn show(probe: &mut Box<dyn Probe>, entry: &Entry) -> Wish
-    ensures moved { (state probe.new, result) ≡ rule probe.old (state probe.old) entry.now }
+    ensures moved { (kept probe.new, result) ≡ rule probe.old (kept probe.old) entry.now }
     ensures same_rule { rule probe.new ≡ rule probe.old }
     ensures same_reading { reads probe.new ≡ reads probe.old }
 {
@@ -18,9 +18,9 @@ fn show(probe: &mut Box<dyn Probe>, entry: &Entry) -> Wish
 /// Shows an entry to the probes, in the order of the list, up to the first that wishes a stop, and tells which that
 /// was.
 fn show_entry(probes: &mut Vec<Box<dyn Probe>>, entry: &Entry) -> Option<usize>
-    ensures moved { map (λ b. told (rule b) (reads b) (state b)) probes.new.items
-        ≡ after_entry entry.now (map (λ b. told (rule b) (reads b) (state b)) probes.old.items) }
-    ensures stopped { result ≡ stopped_at entry.now (map (λ b. told (rule b) (reads b) (state b)) probes.old.items) }
+    ensures moved { map (λ b. told (rule b) (reads b) (kept b)) probes.new.items
+        ≡ after_entry entry.now (map (λ b. told (rule b) (reads b) (kept b)) probes.old.items) }
+    ensures stopped { result ≡ stopped_at entry.now (map (λ b. told (rule b) (reads b) (kept b)) probes.old.items) }
 {
     for i in 0..probes.len() {
         if let Wish::Stop = show(&mut probes[i], entry) {
@@ -36,15 +36,15 @@ fn show_entry(probes: &mut Vec<Box<dyn Probe>>, entry: &Entry) -> Option<usize>
 ///
 /// The probes are asked here, and the list is lent to no other crate: a function that did so would count as one that
 /// may put boxes of its own making into a list that its caller keeps.
-pub(crate) fn show_new(probes: &mut Vec<Box<dyn Probe>>, entries: &[Entry]) -> Option<Stop>
-    ensures moved { map (λ b. told (rule b) (reads b) (state b)) probes.new.items
-        ≡ after_entries entries.now (map (λ b. told (rule b) (reads b) (state b)) probes.old.items) }
+pub(crate) fn show_new(probes: &mut Vec<Box<dyn Probe>>, entries: &[Entry]) -> Option<StopAt>
+    ensures moved { map (λ b. told (rule b) (reads b) (kept b)) probes.new.items
+        ≡ after_entries entries.now (map (λ b. told (rule b) (reads b) (kept b)) probes.old.items) }
     ensures stopped { result
-        ≡ first_stop 0 entries.now (map (λ b. told (rule b) (reads b) (state b)) probes.old.items) }
+        ≡ first_stop 0 entries.now (map (λ b. told (rule b) (reads b) (kept b)) probes.old.items) }
 {
     for (place, entry) in entries.iter().enumerate() {
         if let Some(probe) = show_entry(probes, entry) {
-            return Some(Stop {
+            return Some(StopAt {
                 entry: place,
                 probe,
             });

@@ -323,7 +323,7 @@ fn a_word_goes_from_board_to_board(rt: HostRuntime) -> Result<(), Fail> {
 // ---- logs
 
 /// Two boards that load a word twice.
-const LOAD_TWICE: &[u8] =
+pub(crate) const LOAD_TWICE: &[u8] =
     b".page 0 0 ro\n.board\nld r1, 64(r0)\nld r1, 64(r0)\nhalt\n.board\nld r1, 64(r0)\nld r1, 64(r0)\nhalt\n";
 
 const LOAD_TWICE_STEPS: &[Step] = &[
@@ -529,7 +529,7 @@ const SUM_LINES: &[(u32, Line)] = &[
 fn a_schedule_comes_to_its_end(rt: HostRuntime) -> Result<(), Fail> {
     let mut world = world_of(rt.alloc(), SUM, SwapMemory::new(rt.alloc()))?;
     let mut probes = Vec::new(rt.alloc());
-    let ran = run_schedule(&mut world, 1, &mut probes)?;
+    let ran = run_schedule(&mut world, 1, false, &mut probes)?;
     assert_eq!(rt; ran, Ran::Done);
     assert!(rt; has_grown(world.history(), 0, SUM_LINES));
     let (_, boards) = world.into_parts();

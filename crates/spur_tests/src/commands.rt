@@ -41,17 +41,17 @@ struct Run {
 // ---- reports
 
 /// The rows of the board that loads 41.
-const SUM_ROWS: &[u8] = b"board 0 halted retired 4\n\
+pub(crate) const SUM_ROWS: &[u8] = b"board 0 halted retired 4\n\
     regs 0 00000000 0000002a 00000000 00000000 00000000 00000000 00000000 00000000 00000000 00000000 00000000 00000000 00000000 00000000 00000000 00000000\n";
 
 /// The counts of its history.
-const SUM_COUNTS: &[u8] = b"loads 1\nstores 1\ntas 0\n\
+pub(crate) const SUM_COUNTS: &[u8] = b"loads 1\nstores 1\ntas 0\n\
     align 0\nunmapped 0\nmissing 1\nleaving 0\nprotection 0\nreference 0\ndirty 1\n\
     fills 3\nclaims 2\nwritebacks 0\nrefreshes 1\nflushes 0\n\
     leaves 0\nouts 0\nins 1\nsetrefs 0\nsetdirties 1\nclearrefs 0\n";
 
 /// The trace of its history.
-const SUM_TRACE: &[u8] = b"%trace 1 1 256 4096\n\
+pub(crate) const SUM_TRACE: &[u8] = b"%trace 1 1 256 4096\n\
     fill 0 root read 3fcff00000\n\
     fill 0 pte read 3fc0000000\n\
     fault 0 missing load 0000000040\n\
@@ -235,7 +235,7 @@ const FLAGS: &[Run] = &[
         written: &[SUM_ROWS, SUM_TRACE],
     },
     Run {
-        words: "run --trace",
+        words: "sched 1 --trace",
         input: SUM,
         status: Status::Fine,
         written: &[SUM_ROWS, SUM_TRACE],
@@ -247,14 +247,14 @@ const FLAGS: &[Run] = &[
         written: &[SUM_ROWS, SUM_COUNTS],
     },
     Run {
-        words: "run --trace --budget 4 --counts",
+        words: "sched 1 --trace --budget 4 --counts",
         input: SUM,
         status: Status::Fine,
         written: &[SUM_ROWS, SUM_COUNTS, SUM_TRACE],
     },
     // No entry, and options in the header.
     Run {
-        words: "run --trace",
+        words: "sched 1 --trace",
         input: HALT,
         status: Status::Fine,
         written: &[HALT_ROWS, b"%trace 1 1 256 4096\n"],
@@ -282,7 +282,7 @@ const PAGES: &[Run] = &[
         written: &[TWO_BLOCKS_REPORT],
     },
     Run {
-        words: "run --frames 2 --counts",
+        words: "sched 1 --frames 2 --counts",
         input: THREE_PAGES,
         status: Status::Fine,
         written: &[THREE_PAGES_ROWS, THREE_PAGES_COUNTS],
@@ -294,7 +294,7 @@ const PAGES: &[Run] = &[
         written: &[THREE_PAGES_ROWS, THREE_PAGES_COUNTS],
     },
     Run {
-        words: "run --frames 1 --counts",
+        words: "sched 1 --frames 1 --counts",
         input: ONE_FRAME,
         status: Status::Fine,
         written: &[ONE_FRAME_ROWS, ONE_FRAME_COUNTS],
@@ -316,7 +316,7 @@ const ENDINGS: &[Run] = &[
         written: &[READ_ONLY_REPORT],
     },
     Run {
-        words: "run --trace",
+        words: "sched 1 --trace",
         input: b".board\nld r1, 2(r0)\n",
         status: Status::Ended,
         written: &[ALIGN_REPORT],
@@ -328,13 +328,13 @@ const ENDINGS: &[Run] = &[
         written: &[UNMAPPED_REPORT],
     },
     Run {
-        words: "run --trace",
+        words: "sched 1 --trace",
         input: b".board\nld r1, 0(r0)\n",
         status: Status::Ended,
         written: &[NO_PAGE_REPORT],
     },
     Run {
-        words: "run --trace",
+        words: "sched 1 --trace",
         input: TWO_LOADS,
         status: Status::Fine,
         written: &[TWO_LOADS_REPORT],
@@ -344,7 +344,7 @@ const ENDINGS: &[Run] = &[
 /// An object, and a generated text with its object.
 const OBJECTS: &[Run] = &[
     Run {
-        words: "run",
+        words: "sched 1",
         input: SUM_OBJECT,
         status: Status::Fine,
         written: &[SUM_ROWS],
@@ -356,7 +356,7 @@ const OBJECTS: &[Run] = &[
         written: &[SUM_ROWS, SUM_COUNTS, SUM_TRACE],
     },
     Run {
-        words: "run",
+        words: "sched 1",
         input: LEAST,
         status: Status::Fine,
         written: &[LEAST_ROWS],
@@ -406,19 +406,22 @@ const STEPS: [(&[u8], &[u8]); 12] = [
 
 /// Words, an input that is refused, and why.
 const REFUSED: &[(&str, Pieces, &str)] = &[
-    ("run", &[SEGMENT_255], "load: segment 255"),
-    ("run", &[SEGMENT_255_OBJECT], "load: segment 255"),
-    ("run", &[PAGE_TWICE], "load: page twice 0000000000"),
-    ("run", &[PAGE_TWICE_OBJECT], "load: page twice 0000000000"),
+    ("sched 1", &[SEGMENT_255], "load: segment 255"),
+    ("sched 1", &[SEGMENT_255_OBJECT], "load: segment 255"),
+    ("sched 1", &[PAGE_TWICE], "load: page twice 0000000000"),
+    (
+        "sched 1",
+        &[PAGE_TWICE_OBJECT],
+        "load: page twice 0000000000",
+    ),
     // `asm` reads texts alone.
     ("asm", &[SUM_OBJECT], "line 1 column 1: bad byte"),
     ("asm", &[], "line 1 column 1: no board"),
     ("asm", &[b".board\njmp on\n"], "line 2 column 5: no label"),
     // An input is an object by its first byte.
-    ("run", &[b"\x93SPS\0"], "byte 0: magic"),
-    ("run", &[b"\x93SP"], "byte 0: short"),
-    ("run", &[b"\x92SPR"], "line 1 column 1: bad byte"),
-    ("run", &[SUM_OBJECT, b"\0"], "byte 64: trailing"),
+    ("sched 1", &[b"\x93SPS\0"], "byte 0: magic"),
+    ("sched 1", &[b"\x93SP"], "byte 0: short"),
+    ("sched 1", &[b"\x92SPR"], "line 1 column 1: bad byte"),
     ("sched 1", &[SUM_OBJECT, b"\0"], "byte 64: trailing"),
 ];
 
@@ -426,11 +429,9 @@ const REFUSED: &[(&str, Pieces, &str)] = &[
 const WORDS: &[(&str, u32)] = &[
     ("", 1),
     ("sched", 2),
-    ("run more", 2),
-    ("run --frames 0", 3),
-    ("run --frames", 3),
-    ("run --counts --counts", 3),
-    ("run --trace 1", 3),
+    // without threads there is no `run`
+    ("run", 1),
+    ("run more", 1),
     ("asm more", 2),
     ("asm --trace", 2),
     ("gen 7 13 64", 3),
@@ -667,10 +668,10 @@ pub(crate) fn four_boards(alloc: Global) -> Result<Vec<u8>, AllocError> {
     bytes_of(alloc, "gen 7 4 64", b"")
 }
 
-/// Whether that text comes to what was worked out by hand.
-fn are_four_boards(alloc: Global) -> Result<bool, AllocError> {
+/// Whether these words bring that text to what was worked out by hand.
+pub(crate) fn are_four_boards(alloc: Global, words: &str) -> Result<bool, AllocError> {
     let text = four_boards(alloc)?;
-    let words = words_in(alloc, "sched 7 --counts")?;
+    let words = words_in(alloc, words)?;
     let (outcome, sink) = answer_to(alloc, &words, &text, SwapMemory::new(alloc))?;
     let Some(report) = &outcome.report else {
         return Ok(false);
@@ -704,7 +705,7 @@ fn commands_write_what_was_worked_out_by_hand(rt: HostRuntime) -> Result<(), Fai
         greatest(alloc)?
     );
     assert_eq!(rt; LEAST.len(), 255);
-    assert!(rt; are_four_boards(alloc)?);
+    assert!(rt; are_four_boards(alloc, "sched 7 --counts")?);
     Ok(())
 }
 
@@ -757,7 +758,7 @@ fn largest(alloc: Global) -> Result<Vec<u8>, AllocError> {
 /// Whether its object has so many bytes, and is run: each board does its instructions and the `halt` behind them.
 fn is_largest(alloc: Global) -> Result<bool, AllocError> {
     let object = bytes_of(alloc, "asm", &largest(alloc)?)?;
-    let words = words_in(alloc, "run")?;
+    let words = words_in(alloc, "sched 1")?;
     let (outcome, _) = answer_to(alloc, &words, &object, SwapMemory::new(alloc))?;
     let Some(report) = &outcome.report else {
         return Ok(false);
@@ -776,16 +777,16 @@ fn objects_are_read_field_by_field(rt: HostRuntime) -> Result<(), Fail> {
     let alloc = rt.alloc();
     for (i, (from, content, why)) in FIELDS.iter().enumerate() {
         let object = with_field(alloc, *from, *content)?;
-        assert!(rt; is_refused(alloc, "run", &object, why)?, "field {i}");
+        assert!(rt; is_refused(alloc, "sched 1", &object, why)?, "field {i}");
     }
     for (i, (from, content, status, written)) in ALLOWED.iter().enumerate() {
         let object = with_field(alloc, *from, *content)?;
         let written = joined(alloc, written)?;
-        let holds = is_answered(alloc, "run", &object, *status, Told::Report, &written)?;
+        let holds = is_answered(alloc, "sched 1", &object, *status, Told::Report, &written)?;
         assert!(rt; holds, "allowed {i}");
     }
     for length in 0..64 {
-        assert!(rt; is_short(alloc, "run", length)?, "{length} bytes");
+        assert!(rt; is_short(alloc, "sched 1", length)?, "{length} bytes");
         assert!(rt;
             is_short(alloc, "sched 1", length)?,
             "{length} bytes, by a schedule"

@@ -60,7 +60,7 @@ const RUNS: &[Run] = &[
     },
     // The dirty copy of a second block is refreshed without a fault.
     Run {
-        words: &["run"],
+        words: &["sched", "1"],
         text: TWO_BLOCKS,
         lines: &[
             FILL_ROOT,
@@ -116,7 +116,7 @@ const RUNS: &[Run] = &[
     },
     // Two pages that are written share one frame: each goes out dirty, and the first comes in again with what was stored.
     Run {
-        words: &["run", "--frames", "1"],
+        words: &["sched", "1", "--frames", "1"],
         text: ONE_FRAME,
         lines: &[
             FILL_ROOT,
@@ -150,7 +150,7 @@ const RUNS: &[Run] = &[
     },
     // An address that is no multiple of 4 is looked for nowhere.
     Run {
-        words: &["run"],
+        words: &["sched", "1"],
         text: b".board\nld r1, 2(r0)\n",
         lines: &[Line::Fault(Align, Load, 2)],
     },

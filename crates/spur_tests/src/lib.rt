@@ -7,9 +7,15 @@ mod calls;
 #[cfg(test)]
 mod commands;
 #[cfg(test)]
+mod gates;
+#[cfg(test)]
 mod histories;
 #[cfg(test)]
+mod late;
+#[cfg(test)]
 mod lines;
+#[cfg(test)]
+mod probes;
 #[cfg(test)]
 mod reports;
 #[cfg(test)]
@@ -18,6 +24,8 @@ mod runs;
 mod swaps;
 #[cfg(test)]
 mod texts;
+#[cfg(test)]
+mod threads;
 #[cfg(test)]
 mod untold;
 #[cfg(test)]

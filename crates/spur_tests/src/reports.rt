@@ -19,166 +19,153 @@ struct Row {
     written: &'static [u8],
 }
 
-const RUN: &[&str] = &["run"];
+const SCHED: &[&str] = &["sched", "1"];
 
 const THREE: &[u8] = b".board\nli r1, 7\nli r2, 9\nhalt\n";
-
-/// Two boards add 1 to the word at 64, three times each, and a lock at 0 keeps them apart.
-const LOCK: &[u8] =
-    b".page 0 0 rw\n.board\nli r2, 3\ntake: tas r1, 0(r0)\nbne r1, r0, take\nld r3, 64(r0)\naddi r3, r3, 1\nst r3, 64(r0)\nst r0, 0(r0)\naddi r2, r2, -1\nbne r2, r0, take\nhalt\n.board\nli r2, 3\ntake: tas r1, 0(r0)\nbne r1, r0, take\nld r3, 64(r0)\naddi r3, r3, 1\nst r3, 64(r0)\nst r0, 0(r0)\naddi r2, r2, -1\nbne r2, r0, take\nhalt\n";
 
 const ROWS: &[Row] = &[
     // 41 is loaded, 1 is added, and the sum is stored.
     Row {
-        words: RUN,
+        words: SCHED,
         text: SUM,
         status: Status::Fine,
         written: b"board 0 halted retired 4\nregs 0 00000000 0000002a 00000000 00000000 00000000 00000000 00000000 00000000 00000000 00000000 00000000 00000000 00000000 00000000 00000000 00000000\n",
     },
     // A `halt` alone.
     Row {
-        words: RUN,
+        words: SCHED,
         text: b".board\nhalt\n",
         status: Status::Fine,
         written: b"board 0 halted retired 1\nregs 0 00000000 00000000 00000000 00000000 00000000 00000000 00000000 00000000 00000000 00000000 00000000 00000000 00000000 00000000 00000000 00000000\n",
     },
     // A board without instructions: its first place holds a `halt`.
     Row {
-        words: RUN,
+        words: SCHED,
         text: b".board\n",
         status: Status::Fine,
         written: b"board 0 halted retired 1\nregs 0 00000000 00000000 00000000 00000000 00000000 00000000 00000000 00000000 00000000 00000000 00000000 00000000 00000000 00000000 00000000 00000000\n",
     },
     // What was stored is loaded again, from the second page; a sum past 2^32 - 1 begins again at 0, and register 0 stays 0.
     Row {
-        words: RUN,
+        words: SCHED,
         text: b".page 0 0 ro\n.page 1 5 rw\n.word 0 0 -1\n.board\nld r2, 0(r0)\naddi r3, r2, 2\nld r0, 0(r0)\naddi r4, r0, -1\nhalt\n",
         status: Status::Fine,
         written: b"board 0 halted retired 5\nregs 0 00000000 00000000 ffffffff 00000001 ffffffff 00000000 00000000 00000000 00000000 00000000 00000000 00000000 00000000 00000000 00000000 00000000\n",
     },
     // An address that is no multiple of 4.
     Row {
-        words: RUN,
+        words: SCHED,
         text: b".board\nld r1, 2(r0)\n",
         status: Status::Ended,
         written: b"board 0 faulted align 0000000002 retired 0\nregs 0 00000000 00000000 00000000 00000000 00000000 00000000 00000000 00000000 00000000 00000000 00000000 00000000 00000000 00000000 00000000 00000000\n",
     },
     // A page that is not declared, beside one that is.
     Row {
-        words: RUN,
+        words: SCHED,
         text: b".page 0 0 rw\n.board\nli r1, 4096\nld r2, 0(r1)\n",
         status: Status::Ended,
         written: b"board 0 faulted unmapped 0000001000 retired 1\nregs 0 00000000 00001000 00000000 00000000 00000000 00000000 00000000 00000000 00000000 00000000 00000000 00000000 00000000 00000000 00000000 00000000\n",
     },
     // No page at all: there is no page of the page table either.
     Row {
-        words: RUN,
+        words: SCHED,
         text: b".board\nld r1, 0(r0)\n",
         status: Status::Ended,
         written: b"board 0 faulted unmapped 0000000000 retired 0\nregs 0 00000000 00000000 00000000 00000000 00000000 00000000 00000000 00000000 00000000 00000000 00000000 00000000 00000000 00000000 00000000 00000000\n",
     },
     // A store to a page that may only be read, after a load from it.
     Row {
-        words: RUN,
+        words: SCHED,
         text: b".page 0 0 ro\n.word 0 64 7\n.board\nld r1, 64(r0)\nst r1, 64(r0)\nhalt\n",
         status: Status::Ended,
         written: b"board 0 faulted protection 0000000040 retired 1\nregs 0 00000000 00000007 00000000 00000000 00000000 00000000 00000000 00000000 00000000 00000000 00000000 00000000 00000000 00000000 00000000 00000000\n",
     },
     // A load from a page that allows nothing.
     Row {
-        words: RUN,
+        words: SCHED,
         text: b".page 0 0 none\n.board\nld r1, 0(r0)\n",
         status: Status::Ended,
         written: b"board 0 faulted protection 0000000000 retired 0\nregs 0 00000000 00000000 00000000 00000000 00000000 00000000 00000000 00000000 00000000 00000000 00000000 00000000 00000000 00000000 00000000 00000000\n",
     },
     // Two boards: the first is stopped by a page that may only be read, and the second goes on.
     Row {
-        words: RUN,
+        words: SCHED,
         text: b".page 0 0 ro\n.board\nld r1, 64(r0)\nst r1, 64(r0)\n.board\nhalt\n",
         status: Status::Ended,
         written: b"board 0 faulted protection 0000000040 retired 1\nregs 0 00000000 00000000 00000000 00000000 00000000 00000000 00000000 00000000 00000000 00000000 00000000 00000000 00000000 00000000 00000000 00000000\nboard 1 halted retired 1\nregs 1 00000000 00000000 00000000 00000000 00000000 00000000 00000000 00000000 00000000 00000000 00000000 00000000 00000000 00000000 00000000 00000000\n",
     },
-    // The boards take one instruction each in turn, ascending. A board completes 26 instructions beside its failed tries, of 2 each: the
-    // first fails 0, 2 and 2 times before it takes the lock, the second 3, 2 and 2 times. They hold it in turn, so they store 1, 3
-    // and 5, and 2, 4 and 6.
-    Row {
-        words: RUN,
-        text: LOCK,
-        status: Status::Fine,
-        written: b"board 0 halted retired 34\nregs 0 00000000 00000000 00000000 00000005 00000000 00000000 00000000 00000000 00000000 00000000 00000000 00000000 00000000 00000000 00000000 00000000\nboard 1 halted retired 40\nregs 1 00000000 00000000 00000000 00000006 00000000 00000000 00000000 00000000 00000000 00000000 00000000 00000000 00000000 00000000 00000000 00000000\n",
-    },
     // A word may stand before its page.
     Row {
-        words: RUN,
+        words: SCHED,
         text: b".word 0 64 41\n.page 0 0 rw\n.board\nld r1, 64(r0)\nhalt\n",
         status: Status::Fine,
         written: b"board 0 halted retired 2\nregs 0 00000000 00000029 00000000 00000000 00000000 00000000 00000000 00000000 00000000 00000000 00000000 00000000 00000000 00000000 00000000 00000000\n",
     },
     // A text without a board, and one whose label is nowhere.
     Row {
-        words: RUN,
+        words: SCHED,
         text: b"",
         status: Status::Input,
         written: b"refused: line 1 column 1: no board\n",
     },
     Row {
-        words: RUN,
+        words: SCHED,
         text: b".board\njmp on\nhalt\n",
         status: Status::Input,
         written: b"refused: line 2 column 5: no label\n",
     },
     // Labels, comments, blanks of all kinds, hexadecimal numbers, and a last line without its line feed.
     Row {
-        words: RUN,
+        words: SCHED,
         text: b"; nothing\n\n \t.board\r\n.seg 0 1 2 0x3\nfirst : li r1,0x10 ; 16\nshow r1\nbeq r0, r0, end\nlih r1, 1\nend:\n  halt",
         status: Status::Fine,
         written: b"board 0 halted retired 4\nregs 0 00000000 00000010 00000000 00000000 00000000 00000000 00000000 00000000 00000000 00000000 00000000 00000000 00000000 00000000 00000000 00000000\nshown 0 16\n",
     },
     // A program without an end is ended by its budget.
     Row {
-        words: &["run", "--budget", "3"],
+        words: &["sched", "1", "--budget", "3"],
         text: b".board\nagain: nop\njmp again\n",
         status: Status::Ended,
         written: b"board 0 spent retired 3\nregs 0 00000000 00000000 00000000 00000000 00000000 00000000 00000000 00000000 00000000 00000000 00000000 00000000 00000000 00000000 00000000 00000000\n",
     },
     Row {
-        words: &["run", "--budget", "3"],
+        words: &["sched", "1", "--budget", "3"],
         text: b".board\nnop\nnop\nhalt\n",
         status: Status::Fine,
         written: b"board 0 halted retired 3\nregs 0 00000000 00000000 00000000 00000000 00000000 00000000 00000000 00000000 00000000 00000000 00000000 00000000 00000000 00000000 00000000 00000000\n",
     },
     // A `halt` that meets the budget is a halt; a budget that is met before it ends the board there.
     Row {
-        words: &["run", "--budget", "3"],
+        words: &["sched", "1", "--budget", "3"],
         text: THREE,
         status: Status::Fine,
         written: b"board 0 halted retired 3\nregs 0 00000000 00000007 00000009 00000000 00000000 00000000 00000000 00000000 00000000 00000000 00000000 00000000 00000000 00000000 00000000 00000000\n",
     },
     Row {
-        words: &["run", "--budget", "2"],
+        words: &["sched", "1", "--budget", "2"],
         text: THREE,
         status: Status::Ended,
         written: b"board 0 spent retired 2\nregs 0 00000000 00000007 00000009 00000000 00000000 00000000 00000000 00000000 00000000 00000000 00000000 00000000 00000000 00000000 00000000 00000000\n",
     },
     // An access that meets the budget is done first; one that faults counts nothing.
     Row {
-        words: &["run", "--budget", "1"],
+        words: &["sched", "1", "--budget", "1"],
         text: SUM,
         status: Status::Ended,
         written: b"board 0 spent retired 1\nregs 0 00000000 00000029 00000000 00000000 00000000 00000000 00000000 00000000 00000000 00000000 00000000 00000000 00000000 00000000 00000000 00000000\n",
     },
     Row {
-        words: &["run", "--budget", "1"],
+        words: &["sched", "1", "--budget", "1"],
         text: b".board\nld r1, 2(r0)\n",
         status: Status::Ended,
         written: b"board 0 faulted align 0000000002 retired 0\nregs 0 00000000 00000000 00000000 00000000 00000000 00000000 00000000 00000000 00000000 00000000 00000000 00000000 00000000 00000000 00000000 00000000\n",
     },
     // Words that are not of the table.
     Row {
-        words: &["run", "more"],
+        words: &["sched", "1", "more"],
         text: SUM,
         status: Status::Words,
-        written: b"refused: word 2\n",
+        written: b"refused: word 3\n",
     },
     Row {
         words: &["sched"],
@@ -188,13 +175,13 @@ const ROWS: &[Row] = &[
     },
     // What cannot be loaded: of two reasons the one that is looked for first is told.
     Row {
-        words: RUN,
+        words: SCHED,
         text: b".page 0 0 rw\n.page 0 0 ro\n.board\n.seg 255 0 0 0\nhalt\n",
         status: Status::Input,
         written: b"refused: load: segment 255\n",
     },
     Row {
-        words: RUN,
+        words: SCHED,
         text: b".page 0 0 rw\n.page 1 5 ro\n.page 1 5 rw\n.word 0 4096 1\n.board\nhalt\n",
         status: Status::Input,
         written: b"refused: load: page twice 0040005000\n",
@@ -207,7 +194,7 @@ const ROWS: &[Row] = &[
     },
     // The least machine: one frame, 16 lines.
     Row {
-        words: &["run", "--frames", "1", "--lines", "16"],
+        words: &["sched", "1", "--frames", "1", "--lines", "16"],
         text: SUM,
         status: Status::Fine,
         written: b"board 0 halted retired 4\nregs 0 00000000 0000002a 00000000 00000000 00000000 00000000 00000000 00000000 00000000 00000000 00000000 00000000 00000000 00000000 00000000 00000000\n",
@@ -230,7 +217,7 @@ fn texts_and_words_are_answered(rt: HostRuntime) -> Result<(), Fail> {
 #[test]
 fn a_source_that_fails_leaves_nothing_written(rt: HostRuntime) -> Result<(), Fail> {
     let alloc = rt.alloc();
-    let words = words_of(alloc, RUN)?;
+    let words = words_of(alloc, SCHED)?;
     let mut source = SourceMemory::new(SUM.to_vec(alloc)?, 4096, [1].to_vec(alloc)?);
     let mut sink = SinkSure::new(alloc, 64)?;
     let outcome = spur_alone(
@@ -239,6 +226,7 @@ fn a_source_that_fails_leaves_nothing_written(rt: HostRuntime) -> Result<(), Fai
         &mut source,
         &mut sink,
         SwapMemory::new(alloc),
+        Vec::new(alloc),
     );
     assert_eq!(rt; outcome.status, Status::ReadFault);
     assert_eq!(rt; sink.bytes().len(), 0);
@@ -248,7 +236,7 @@ fn a_source_that_fails_leaves_nothing_written(rt: HostRuntime) -> Result<(), Fai
 #[test]
 fn a_sink_that_fails_has_a_front_of_the_line(rt: HostRuntime) -> Result<(), Fail> {
     let alloc = rt.alloc();
-    let words = words_of(alloc, RUN)?;
+    let words = words_of(alloc, SCHED)?;
     let mut source = SourceSure::new(Vec::new(alloc));
     let mut sink = SinkMemory::new(alloc, 64, 3, [2].to_vec(alloc)?)?;
     let outcome = spur_alone(
@@ -257,6 +245,7 @@ fn a_sink_that_fails_has_a_front_of_the_line(rt: HostRuntime) -> Result<(), Fail
         &mut source,
         &mut sink,
         SwapMemory::new(alloc),
+        Vec::new(alloc),
     );
     assert_eq!(rt; outcome.status, Status::WriteFault);
     assert_eq!(rt; sink.bytes(), b"ref".as_slice());
@@ -267,7 +256,7 @@ fn a_sink_that_fails_has_a_front_of_the_line(rt: HostRuntime) -> Result<(), Fail
 fn one_byte_too_many_is_refused(rt: HostRuntime) -> Result<(), Fail> {
     let alloc = rt.alloc();
     let text = vec![in alloc; b';'; 1_048_577]?;
-    let (outcome, sink) = answer_of(alloc, RUN, &text, SwapMemory::new(alloc))?;
+    let (outcome, sink) = answer_of(alloc, SCHED, &text, SwapMemory::new(alloc))?;
     assert_eq!(rt; outcome.status, Status::Input);
     assert_eq!(rt;
         sink.bytes(),
@@ -281,7 +270,7 @@ const TAKER: &[u8] =
     b".board\nli r4, 256\nnext: tas r2, 0(r1)\nbne r2, r0, skip\naddi r3, r3, 1\nskip: addi r1, r1, 4\nbne r1, r4, next\nshow r3\nhalt\n";
 
 /// Four boards that take the same words.
-fn takers(alloc: Global) -> Result<Vec<u8>, AllocError> {
+pub(crate) fn takers(alloc: Global) -> Result<Vec<u8>, AllocError> {
     let mut text = b".page 0 0 rw\n".to_vec(alloc)?;
     for _ in 0..4u32 {
         text.extend_from_slice(TAKER)?;
@@ -299,7 +288,7 @@ const ADD: &[u8] =
 
 /// Twelve boards: the one of number i adds i and the words 1, 2, 3 and 4 of a page that all may read, stores the sum in a
 /// page of its own, loads it again and shows it.
-fn adders(alloc: Global) -> Result<Vec<u8>, AllocError> {
+pub(crate) fn adders(alloc: Global) -> Result<Vec<u8>, AllocError> {
     let mut text = b".page 0 0 ro\n.word 0 0 1\n.word 0 4 2\n.word 0 8 3\n.word 0 12 4\n".to_vec(
         alloc,
     )?;
@@ -320,41 +309,6 @@ fn adders(alloc: Global) -> Result<Vec<u8>, AllocError> {
     Ok(text)
 }
 
-#[test]
-fn four_boards_take_each_word_once(rt: HostRuntime) -> Result<(), Fail> {
-    let alloc = rt.alloc();
-    let Some(report) = report_of(alloc, RUN, &takers(alloc)?)? else {
-        return Err(Fail::from("a report"));
-    };
-    let boards = report.boards.as_slice();
-    assert_eq!(rt; boards.len(), 4);
-    let mut taken = 0u32;
-    for board in boards {
-        assert_eq!(rt; board.ending, Some(Ending::Halted));
-        let shown = board.shown.as_slice();
-        assert_eq!(rt; shown.len(), 1);
-        taken = taken.wrapping_add(shown[0]);
-    }
-    assert_eq!(rt; taken, 64);
-    Ok(())
-}
-
-#[test]
-fn twelve_boards_have_their_own_sums(rt: HostRuntime) -> Result<(), Fail> {
-    let alloc = rt.alloc();
-    let Some(report) = report_of(alloc, RUN, &adders(alloc)?)? else {
-        return Err(Fail::from("a report"));
-    };
-    let boards = report.boards.as_slice();
-    assert_eq!(rt; boards.len(), 12);
-    for (board, sum) in boards.iter().zip(10u32..22) {
-        assert_eq!(rt; board.ending, Some(Ending::Halted));
-        assert_eq!(rt; board.retired, 15);
-        assert_eq!(rt; board.shown.as_slice(), [sum].as_slice());
-    }
-    Ok(())
-}
-
 /// Pages of segment 0, each under a root entry of its own, and a board that halts.
 pub(crate) fn far_pages(alloc: Global, count: u32) -> Result<Vec<u8>, AllocError>
     requires { count < 256 }
@@ -369,14 +323,14 @@ pub(crate) fn far_pages(alloc: Global, count: u32) -> Result<Vec<u8>, AllocError
     Ok(text)
 }
 
-/// The answer to a text by `run` under the most frames.
+/// The answer to a text under the most frames.
 fn answer_under_most_frames(
     alloc: Global,
     text: &[u8],
 ) -> Result<(Outcome<SwapMemory>, SinkSure), AllocError> {
     answer_of(
         alloc,
-        &["run", "--frames", "3900"],
+        &["sched", "1", "--frames", "3900"],
         text,
         SwapMemory::new(alloc),
     )

@@ -36,7 +36,8 @@ pub(crate) fn answer_to<B: Backing + Drop>(
 ) -> Result<(Outcome<B>, SinkSure), AllocError> {
     let mut source = SourceSure::new(input.to_vec(alloc)?);
     let mut sink = SinkSure::new(alloc, ROOM)?;
-    let outcome = spur_alone(alloc, words, &mut source, &mut sink, swap);
+    let probes = Vec::new(alloc);
+    let outcome = spur_alone(alloc, words, &mut source, &mut sink, swap, probes);
     Ok((outcome, sink))
 }
 

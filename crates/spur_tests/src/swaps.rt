@@ -52,7 +52,7 @@ fn pages_are_written_in_slot_order_before_the_run(rt: HostRuntime) -> Result<(),
     let alloc = rt.alloc();
     for (i, row) in FILLINGS.iter().enumerate() {
         let swap = Untold::new(alloc, Vec::new(alloc), row.fail.to_vec(alloc)?);
-        let (outcome, sink) = answer_of(alloc, &["run"], FILLED, swap)?;
+        let (outcome, sink) = answer_of(alloc, &["sched", "1"], FILLED, swap)?;
         assert_eq!(rt; outcome.status, row.status, "row {i}");
         assert_eq!(rt; outcome.backing.reads(), 0, "row {i}");
         assert_eq!(rt; outcome.backing.writes(), row.writes, "row {i}");
@@ -168,7 +168,7 @@ fn a_failing_swap_ends_the_board_that_asked(rt: HostRuntime) -> Result<(), Fail>
 fn pages_that_are_written_go_out_to_their_slots(rt: HostRuntime) -> Result<(), Fail> {
     let alloc = rt.alloc();
     let swap = Untold::new(alloc, Vec::new(alloc), Vec::new(alloc));
-    let words = ["run", "--frames", "1"];
+    let words = ["sched", "1", "--frames", "1"];
     let (outcome, _) = answer_of(alloc, &words, ONE_FRAME_BESIDE, swap)?;
     assert_eq!(rt; outcome.status, Status::Fine);
     assert_eq!(rt; outcome.backing.reads(), 3);
@@ -184,7 +184,12 @@ fn pages_that_are_written_go_out_to_their_slots(rt: HostRuntime) -> Result<(), F
 fn pages_that_are_read_alone_are_not_written(rt: HostRuntime) -> Result<(), Fail> {
     let alloc = rt.alloc();
     let swap = SwapTest::new(alloc, Vec::new(alloc), Vec::new(alloc));
-    let (outcome, _) = answer_of(alloc, &["run", "--frames", "1"], ONE_FRAME_READ, swap)?;
+    let (outcome, _) = answer_of(
+        alloc,
+        &["sched", "1", "--frames", "1"],
+        ONE_FRAME_READ,
+        swap,
+    )?;
     assert_eq!(rt; outcome.status, Status::Fine);
     assert_eq!(rt; outcome.backing.reads(), 3);
     assert_eq!(rt; outcome.backing.writes(), 0);

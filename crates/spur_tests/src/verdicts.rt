@@ -300,12 +300,12 @@ const TRACED: &[(&str, &str, &[u8])] = &[
     ("sched 1 --trace", "check", MAILBOX),
     ("sched 1 --frames 2 --trace", "check", THREE_PAGES),
     ("sched 1 --frames 1 --trace", "check", ONE_FRAME),
-    ("run --trace --counts", "check", MAILBOX),
+    ("sched 1 --trace --counts", "check", MAILBOX),
     ("sched 3 --frames 1 --lines 16 --trace", "check", MAILBOX),
-    ("run --budget 9 --trace", "check --budget 9", MAILBOX),
-    ("run --trace --lines 16", "check", SUM_AT_ZERO),
-    ("run --trace --frames 1", "check", ONE_FRAME_BESIDE),
-    ("run --trace", "check", HALT),
+    ("sched 1 --budget 9 --trace", "check --budget 9", MAILBOX),
+    ("sched 1 --trace --lines 16", "check", SUM_AT_ZERO),
+    ("sched 1 --trace --frames 1", "check", ONE_FRAME_BESIDE),
+    ("sched 1 --trace", "check", HALT),
 ];
 
 /// What stands in a report from the first percent sign on.
@@ -386,7 +386,7 @@ const SINKS: &[(&str, Pieces, u32, Told, &[u8])] = &[
     ("asm", &[SUM_OBJECT], 2, Told::Nothing, b"ref"),
     ("gen 0 1 1", &[], 2, Told::Nothing, b"; g"),
     ("gen 0 0 1", &[], 2, Told::Nothing, b"ref"),
-    ("run --trace", &[SUM], 2, Told::Report, b"boa"),
+    ("sched 1 --trace", &[SUM], 2, Told::Report, b"boa"),
     ("sched 1 --counts", &[SUM_OBJECT], 1, Told::Report, b""),
 ];
 
@@ -395,7 +395,7 @@ const SOURCES: &[(&str, Pieces, u32, Status, &[u8])] = &[
     ("check", SUM_TRACED, 1, Status::ReadFault, b""),
     ("check", SUM_TRACED, 2, Status::ReadFault, b""),
     ("asm", &[SUM], 2, Status::ReadFault, b""),
-    ("run", &[SUM_OBJECT], 2, Status::ReadFault, b""),
+    ("sched 1", &[SUM_OBJECT], 2, Status::ReadFault, b""),
     // Where nothing is read, no read can fail.
     ("gen 0 1 1", &[SUM], 1, Status::Fine, LEAST),
     ("asm more", &[SUM], 1, Status::Words, b"refused: word 2\n"),
@@ -418,6 +418,7 @@ fn is_failing(
         &mut source,
         &mut sink,
         SwapMemory::new(alloc),
+        Vec::new(alloc),
     );
     Ok(outcome.status == status && is_told(&outcome, told) && sink.bytes() == written)
 }
@@ -434,6 +435,7 @@ fn is_left(alloc: Global, fail: &[u32]) -> Result<bool, AllocError> {
         &mut source,
         &mut sink,
         SwapMemory::new(alloc),
+        Vec::new(alloc),
     );
     for _ in fail {
         match read_all(alloc, &mut source, 4096) {

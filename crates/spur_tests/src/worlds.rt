@@ -80,7 +80,7 @@ pub(crate) struct Step {
     pub(crate) stand: Stand,
 }
 
-/// One data frame, 16 cache lines, and 100 instructions a board.
+/// One data frame, 16 cache lines, and 5000 instructions a board, which fill a log more than once.
 fn options() -> Options
     ensures range { IsOptions result }
     ensures ahead { result.ahead ≡ 0 }
@@ -88,7 +88,7 @@ fn options() -> Options
     Options {
         frames: 1,
         lines: 16,
-        budget: 100,
+        budget: 5000,
         ahead: 0,
     }
 }

@@ -1,1 +1,3 @@
+pub mod WatchFacts
 pub mod WordFacts
+pub mod AloneFacts

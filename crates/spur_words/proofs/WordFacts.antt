@@ -15,13 +15,41 @@ use Rattle.spur_words.specs.declared.table.Verb.{Verb}
 use Rattle.spur_words.specs.declared.table.Verb.TheVariants as verb
 use Rattle.spur_words.specs.declared.task.Task.{Task}
 use Rattle.spur_words.specs.Tasks.{AreOptions, IsTaskInRange, first_settings, fits_field, task_for, with_field, with_flag}
-use Rattle.spur_words.specs.Words.{command_fields, command_named, flag_fields, next_flag, number_behind, decimal_of, or_offends, task_from, task_of, with_number, filled_by}
+use Rattle.spur_words.specs.Words.{command_fields, command_named, flag_fields, next_flag, number_behind, number_in, or_offends, task_from, task_of, with_number, filled_by}
 
 -- what a word says that doesn't offend
 said_by : {A B : Type 0} (said : Option A) (number : ℕ) (f : A → Result B ℕ) (y : B) → or_offends said number f ≡ Ok y
     → (x : A) × (said ≡ Some x) × (f x ≡ Ok y)
 said_by None number f y is = absurd cc
 said_by (Some x) number f y is = (x, refl, is)
+
+-- the next word fills the field that is wanted
+pub field_said : (verb : Verb) (settings : Settings) (task : Task) (field : Field) (wanted : List Field)
+    (before : List (List ℕ)) (word : List ℕ) (words : List (List ℕ))
+    → task_from verb settings (field ∷ wanted) before (word ∷ words) ≡ Ok task
+    → (filled : Settings) × (filled_by field settings word ≡ Some filled)
+    × (task_from verb filled wanted (before ++ word ∷ []) words ≡ Ok task)
+field_said verb settings task field wanted before word words is =
+    let rest : Settings → Result Task ℕ = λ filled. task_from verb filled wanted (before ++ word ∷ []) words in
+    said_by (filled_by field settings word) (number_behind before) rest task is
+
+-- where no field is wanted, it is a flag
+pub flag_said : (verb : Verb) (settings : Settings) (task : Task) (before : List (List ℕ)) (word : List ℕ)
+    (words : List (List ℕ)) → task_from verb settings [] before (word ∷ words) ≡ Ok task
+    → (f : Flag) × (next_flag verb before word ≡ Some f)
+    × (task_from verb (with_flag f settings) (flag_fields f) (before ++ word ∷ []) words ≡ Ok task)
+flag_said verb settings task before word words is =
+    let seen = before ++ word ∷ [] in
+    let rest : Flag → Result Task ℕ = λ f. task_from verb (with_flag f settings) (flag_fields f) seen words in
+    said_by (next_flag verb before word) (number_behind before) rest task is
+
+-- the first word of all is a command
+pub command_said : (task : Task) (name : List ℕ) (words : List (List ℕ)) → task_of (name ∷ words) ≡ Ok task
+    → (verb : Verb) × (command_named name ≡ Some verb)
+    × (task_from verb first_settings (command_fields verb) [] words ≡ Ok task)
+command_said task name words is =
+    let rest : Verb → Result Task ℕ = λ verb. task_from verb first_settings (command_fields verb) [] words in
+    said_by (command_named name) 1 rest task is
 
 -- ---- the settings are in their ranges
 
@@ -62,14 +90,18 @@ filled_in_range field.Lines settings n fine is =
     record { boards = fine.boards; pages = fine.pages; frames = fine.frames; lines = is; budget = fine.budget; ahead = fine.ahead }
 filled_in_range field.Budget settings n fine is =
     record { boards = fine.boards; pages = fine.pages; frames = fine.frames; lines = fine.lines; budget = is; ahead = fine.ahead }
+filled_in_range field.Watch settings n fine is = fine
 
 flagged_in_range : (flag : Flag) (settings : Settings) → AreInRange settings → AreInRange (with_flag flag settings)
 flagged_in_range flag.Frames settings fine = fine
 flagged_in_range flag.Lines settings fine = fine
 flagged_in_range flag.Budget settings fine = fine
+flagged_in_range flag.Watch settings fine = fine
 flagged_in_range flag.Counts settings fine =
     record { boards = fine.boards; pages = fine.pages; frames = fine.frames; lines = fine.lines; budget = fine.budget; ahead = fine.ahead }
 flagged_in_range flag.Trace settings fine =
+    record { boards = fine.boards; pages = fine.pages; frames = fine.frames; lines = fine.lines; budget = fine.budget; ahead = fine.ahead }
+flagged_in_range flag.Late settings fine =
     record { boards = fine.boards; pages = fine.pages; frames = fine.frames; lines = fine.lines; budget = fine.budget; ahead = fine.ahead }
 
 allowed_in_range : (field : Field) (settings filled : Settings) (n : ℕ) (allowed : Bool) → AreInRange settings → fits_field field n ≡ allowed
@@ -127,17 +159,20 @@ from_in_range : (verb : Verb) (settings : Settings) (result : Task) (wanted : Li
 from_in_range verb settings result [] before [] fine is = (let e : task_for verb settings ≡ result = cc in subst IsTaskInRange e (task_in_range verb settings fine))
 from_in_range verb settings result (field ∷ wanted) before [] fine is = absurd cc
 from_in_range verb settings result (field ∷ wanted) before (word ∷ words) fine is =
-    let said = said_by (filled_by field settings word) (number_behind before) (λ filled. task_from verb filled wanted (before ++ word ∷ []) words) result is in
-    from_in_range verb said.0 result wanted (before ++ word ∷ []) words (number_in_range field settings said.0 (decimal_of word) fine said.1) said.2
+    let said = field_said verb settings result field wanted before word words is in
+    let fine_then = number_in_range field settings said.0 (number_in field word) fine said.1 in
+    from_in_range verb said.0 result wanted (before ++ word ∷ []) words fine_then said.2
 from_in_range verb settings result [] before (word ∷ words) fine is =
-    let said = said_by (next_flag verb before word) (number_behind before) (λ flag. task_from verb (with_flag flag settings) (flag_fields flag) (before ++ word ∷ []) words) result is in
-    from_in_range verb (with_flag said.0 settings) result (flag_fields said.0) (before ++ word ∷ []) words (flagged_in_range said.0 settings fine) said.2
+    let said = flag_said verb settings result before word words is in
+    let fine_then = flagged_in_range said.0 settings fine in
+    let seen = before ++ word ∷ [] in
+    from_in_range verb (with_flag said.0 settings) result (flag_fields said.0) seen words fine_then said.2
 
 -- the task that words ask for
 in_range : (words : List (List ℕ)) (task : Task) → task_of words ≡ Ok task → IsTaskInRange task
 in_range [] task is = absurd cc
 in_range (name ∷ words) task is =
-    let said = said_by (command_named name) 1 (λ verb. task_from verb first_settings (command_fields verb) [] words) task is in
+    let said = command_said task name words is in
     from_in_range said.0 first_settings task (command_fields said.0) [] words first_in_range said.2
 
 pub range_if-Ok : (words : List (List ℕ)) (result : Result Task ℕ) → result ≡ task_of words → IfOk result IsTaskInRange

@@ -3,41 +3,20 @@
 //! A line is a command, then the command's numbers, then flags in any order, each with its value, where it has one, as
 //! the word behind it.
 
-ghost use Rattle.std.specs.Prelude.{◌≡◌, ◌^◌, ◌<◌, [], IfOk, IfSome};
-ghost use Rattle.spur_words.specs.Tasks.{first_settings, IsTaskInRange};
-ghost use Rattle.spur_words.specs.Words.{command_fields, decimal_of, filled_by, flag_among, next_flag, task_from, task_of, texts, times_in};
+ghost use Rattle.std.specs.Prelude.{◌≡◌, [], IfOk};
+ghost use Rattle.spur_words.specs.Tasks.{first_settings, IsAlone, IsTaskInRange};
+ghost use Rattle.spur_words.specs.Words.{asks_to_run, command_fields, filled_by, flag_among, next_flag, task_alone, task_from, task_of, texts, times_in};
 
 use crate::settings::Settings;
 use crate::table::{Field, Flag, Verb};
 use crate::task::Task;
-
-/// The most decimal digits of a number.
-const MOST_DIGITS: usize = 20;
-
-/// The number that 1 to 20 decimal digits write; the first may be zeros. `None` where the text is none of these.
-fn number_of(text: &[u8]) -> Option<u128>
-    ensures value { result ≡ decimal_of text.now }
-    ensures below { IfSome result (λ n. n < 10 ^ 20) }
-{
-    if text.is_empty() || text.len() > MOST_DIGITS {
-        return None;
-    }
-    let mut n = 0u128;
-    for c in text {
-        if !c.is_ascii_digit() {
-            return None;
-        }
-        n = n * 10 + u128::from(*c - b'0');
-    }
-    Some(n)
-}
 
 impl Field {
     /// The settings with the number of a word in this field. `None` where the word is no number that may fill it.
     fn read(self, settings: Settings, word: &str) -> Option<Settings>
         ensures { result ≡ filled_by self settings word.now }
     {
-        let number = number_of(word.as_bytes())?;
+        let number = self.number_in(word.as_bytes())?;
         if self.allows(number) {
             Some(self.filled(settings, number))
         } else {
@@ -131,10 +110,15 @@ fn read(words: &[String]) -> Result<Task, usize>
 ///
 /// The first word is the command. `run`, `check` and `asm` stand alone; behind `sched` stands its start, from 0 to
 /// 2^64-1; and behind `gen` stand a number from 0 to 2^32-1, 1 to 12 boards, and 1 to 512 pages. Flags follow in any
-/// order, each once, and the word behind a flag that has a value is its value. `run` and `sched` have `--frames` 1 to
-/// 3900 (256 without it), `--lines` a power of two from 16 to 4096 (4096), `--budget` 1 to 250000 instructions (100000),
-/// and `--counts` and `--trace`, which have no value; `check` has `--budget` alone; `asm` and `gen` have no flag. A
-/// number is 1 to 20 decimal digits, of which the first may be zeros.
+/// order, each once but `--watch`, and the word behind a flag that has a value is its value. `run` and `sched` have
+/// `--frames` 1 to 3900 (256 without it), `--lines` a power of two from 16 to 4096 (4096), `--budget` 1 to 250000
+/// instructions (100000), and `--counts` and `--trace`, which have no value; `check` has `--budget` alone; `asm` and
+/// `gen` have no flag. Each of these numbers is 1 to 20 decimal digits, of which the first may be zeros.
+///
+/// `sched` alone has `--late`, which has no value: the boards' logs are joined at turns on the bus and at the end alone.
+/// And it has `--watch`, up to 8 times. Its value is a global address: the number of a byte below 2^38, in 1 to 10
+/// lower-case hexadecimal digits with nothing before them, of which the first may be zeros. The task has nothing of it;
+/// `watched` gives these addresses.
 ///
 /// `Err` has the number, counted from 1, of the first word that is not of the table. A line that ends too early is
 /// answered by the number behind its last word.
@@ -144,4 +128,28 @@ pub fn task_of(words: &[String]) -> Result<Task, usize>
 {
     let task = read(words);
     task
+}
+
+/// Whether the first word is `run`.
+fn asks_to_run(words: &[String]) -> bool
+    ensures { result ≡ asks_to_run (texts words.now) }
+{
+    match words {
+        [name, ..] => name.as_str() == "run",
+        [] => false,
+    }
+}
+
+/// What the words behind the program's name ask for where there are no threads: as `task_of` answers, but that the word
+/// `run` is none of the table, and so is refused as word 1.
+pub fn task_alone(words: &[String]) -> Result<Task, usize>
+    ensures task { result ≡ task_alone (texts words.now) }
+    ensures ranges { IfOk result IsTaskInRange }
+    ensures alone { IfOk result IsAlone }
+{
+    if asks_to_run(words) {
+        Err(1)
+    } else {
+        task_of(words)
+    }
 }

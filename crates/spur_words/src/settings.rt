@@ -3,14 +3,15 @@
 ghost use Rattle.std.specs.Prelude.{◌≡◌};
 ghost use Rattle.spur_words.specs.Tasks.{first_settings};
 
+use crate::task::Schedule;
 use spur_loader::Options;
 use spur_report::Flags;
 
 /// A place for each number and for each flag without a value. A command's task is made of those that it has.
 #[derive(Clone, Copy, Debug, PartialEq, Eq)]
 pub struct Settings {
-    /// With which number the schedule starts.
-    pub start: u64,
+    /// The schedule by which boards are run.
+    pub schedule: Schedule,
     /// The first number of a text that is generated.
     pub number: u32,
     /// How many boards such a text has.
@@ -38,8 +39,12 @@ impl Settings {
             counts: false,
             trace: false,
         };
-        Settings {
+        let schedule = Schedule {
             start: 0,
+            late: false,
+        };
+        Settings {
+            schedule,
             number: 0,
             boards: 1,
             pages: 1,

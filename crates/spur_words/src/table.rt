@@ -25,9 +25,11 @@ pub enum Flag {
     Budget,
     Counts,
     Trace,
+    Late,
+    Watch,
 }
 
-/// A row of the table of fields: what a number on the command line sets.
+/// A row of the table of fields: what a number on the command line sets. An address that is watched sets nothing here.
 #[derive(Clone, Copy, Debug, PartialEq, Eq)]
 pub enum Field {
     Start,
@@ -37,6 +39,7 @@ pub enum Field {
     Frames,
     Lines,
     Budget,
+    Watch,
 }
 
 impl Verb {
@@ -70,12 +73,21 @@ impl Verb {
         ensures { result.now ≡ command_flags self }
     {
         match self {
-            Verb::Run | Verb::Sched => &[
+            Verb::Run => &[
                 Flag::Frames,
                 Flag::Lines,
                 Flag::Budget,
                 Flag::Counts,
                 Flag::Trace,
+            ],
+            Verb::Sched => &[
+                Flag::Frames,
+                Flag::Lines,
+                Flag::Budget,
+                Flag::Counts,
+                Flag::Trace,
+                Flag::Late,
+                Flag::Watch,
             ],
             Verb::Check => &[Flag::Budget],
             Verb::Asm | Verb::Gen => &[],
@@ -88,14 +100,12 @@ impl Verb {
     {
         match self {
             Verb::Run => Task::Run {
-                order: Order::Rounds,
+                order: Order::Threads,
                 options: settings.options,
                 flags: settings.flags,
             },
             Verb::Sched => Task::Run {
-                order: Order::Schedule {
-                    start: settings.start,
-                },
+                order: Order::Scheduled(settings.schedule),
                 options: settings.options,
                 flags: settings.flags,
             },
@@ -123,6 +133,8 @@ impl Flag {
             Flag::Budget => b"--budget",
             Flag::Counts => b"--counts",
             Flag::Trace => b"--trace",
+            Flag::Late => b"--late",
+            Flag::Watch => b"--watch",
         }
     }
 
@@ -131,7 +143,9 @@ impl Flag {
         ensures { result ≡ flag_times self }
     {
         match self {
-            Flag::Frames | Flag::Lines | Flag::Budget | Flag::Counts | Flag::Trace => 1,
+            Flag::Frames | Flag::Lines | Flag::Budget | Flag::Counts | Flag::Trace | Flag::Late =>
+                1,
+            Flag::Watch => 8,
         }
     }
 
@@ -143,7 +157,8 @@ impl Flag {
             Flag::Frames => &[Field::Frames],
             Flag::Lines => &[Field::Lines],
             Flag::Budget => &[Field::Budget],
-            Flag::Counts | Flag::Trace => &[],
+            Flag::Watch => &[Field::Watch],
+            Flag::Counts | Flag::Trace | Flag::Late => &[],
         }
     }
 
@@ -153,9 +168,10 @@ impl Flag {
     {
         let mut set = settings;
         match self {
-            Flag::Frames | Flag::Lines | Flag::Budget => {}
+            Flag::Frames | Flag::Lines | Flag::Budget | Flag::Watch => {}
             Flag::Counts => set.flags.counts = true,
             Flag::Trace => set.flags.trace = true,
+            Flag::Late => set.schedule.late = true,
         }
         set
     }
@@ -174,23 +190,25 @@ impl Field {
             Field::Frames => 1 <= number && number <= 3900,
             Field::Lines => 16 <= number && number <= 4096 && number.is_power_of_two(),
             Field::Budget => 1 <= number && number <= 250_000,
+            Field::Watch => number < 1 << 38,
         }
     }
 
-    /// The settings with a number in this field.
+    /// The settings with a number in this field; an address that is watched leaves them as they are.
     pub(crate) fn filled(self, settings: Settings, number: u128) -> Settings
         requires { fits_field self number ≡ true }
         ensures { result ≡ with_field self settings number }
     {
         let mut filled = settings;
         match self {
-            Field::Start => filled.start = number as u64,
+            Field::Start => filled.schedule.start = number as u64,
             Field::Number => filled.number = number as u32,
             Field::Boards => filled.boards = number as u32,
             Field::Pages => filled.pages = number as u32,
             Field::Frames => filled.options.frames = number as u32,
             Field::Lines => filled.options.lines = number as u32,
             Field::Budget => filled.options.budget = number as u32,
+            Field::Watch => {}
         }
         filled
     }

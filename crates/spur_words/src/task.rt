@@ -3,13 +3,22 @@
 use spur_loader::Options;
 use spur_report::Flags;
 
+/// A schedule: from which number it picks the boards, and when their logs are joined to the history.
+#[derive(Clone, Copy, Debug, PartialEq, Eq)]
+pub struct Schedule {
+    /// With which number it starts.
+    pub start: u64,
+    /// Whether logs are joined at turns on the bus and at the end alone, and not after each instruction.
+    pub late: bool,
+}
+
 /// In which order boards take their steps.
 #[derive(Clone, Copy, Debug, PartialEq, Eq)]
 pub enum Order {
-    /// The boards get one instruction each in turn, in ascending order, round after round.
-    Rounds,
-    /// Each instruction is that of the board that the schedule with this start picks.
-    Schedule { start: u64 },
+    /// Each board takes its steps on a thread of its own, in whatever order these get to them.
+    Threads,
+    /// Each instruction is that of the board that this schedule picks.
+    Scheduled(Schedule),
 }
 
 /// What the words of the command line ask for.

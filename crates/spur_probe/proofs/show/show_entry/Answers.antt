@@ -1,8 +1,8 @@
-use Rattle.std.proofs.Common.{rules, ◌≡◌, ◌+◌, ◌<◌, length, sym, ap, ◌∙◌, refl, arith, add-one, length-set, Some}
+use Rattle.std.proofs.Common.{◌≡◌, ◌<◌, length, sym, ap, ◌∙◌, refl, arith, add-one, length-set, Some}
 use Rattle.std.specs.Prelude.{slice_get}
 use Rattle.std.proofs.lemmas.Option.{slice_get_read}
 use Rattle.spur_probe.specs.Shown.{wants_stop}
-use Rattle.spur_probe.proofs.ShownFacts.{Shown, shown_more, shown_all, shown_stop, one, not_stop}
+use Rattle.spur_probe.proofs.ShownFacts.{shown_more, shown_all, shown_stop, one, not_stop}
 use Rattle.spur_probe.proofs.show.show_entry.Goals as goal
 
 pub loop-i-init : goal.loop-i-init

@@ -6,6 +6,7 @@ use Rattle.std.proofs.lemmas.Option.{slice_get_read}
 use Rattle.spur_board.specs.declared.board.Board.{Board}
 use Rattle.spur_board.specs.Own.{HasTurned}
 use Rattle.spur_core.specs.World.{start_of}
+use Rattle.spur_core.proofs.InstructionFacts.{events-take-instructions}
 use Rattle.spur_core.proofs.AskFacts.{same_at}
 use Rattle.spur_core.proofs.OwnEventFacts.{events_good}
 use Rattle.spur_core.proofs.OwnStepFacts.{event_stepped, turned_event, turned_still}
@@ -50,4 +51,16 @@ returns-clause-stepped g c = λ one alone unended empty.
     let turned : HasTurned g.C.Cpu.meaning g.C.Cpu.state g.C.Cpu.room 1 x c.own_turn.result y =
     subst (λ (n : ℕ). HasTurned g.C.Cpu.meaning g.C.Cpu.state g.C.Cpu.room n x c.own_turn.result y) one c.own_turn.ensures in
     event_stepped g.C.Cpu.meaning g.C.Cpu.state g.C.Cpu.room c.args.self.now.store boards c.args.b x y empty at (c.requires.good.programs.each c.args.b x at).number
+    (turned_event g.C.Cpu.meaning g.C.Cpu.state g.C.Cpu.room x y c.own_turn.result turned alone none)
+
+pub returns-clause-instruction : goal.returns-clause-instruction
+returns-clause-instruction g c = λ one alone unended.
+    let boards : List (Board g.row.C.Denot) = c.args.self.now.boards.items in
+    let x : Board g.row.C.Denot = c.index_mut.result.now in
+    let y : Board g.row.C.Denot = c.own_turn.new.self in
+    let at : slice_get boards c.args.b ≡ Some x = slice_get_read _ _ _ _ refl c.requires.board c.index_mut.ensures.value in
+    let none : x.ended ≡ None = ap (λ (b : Board g.row.C.Denot). b.ended) (same_at boards c.args.b x unended.board at unended.there) ∙ unended.going in
+    let turned : HasTurned g.C.Cpu.meaning g.C.Cpu.state g.C.Cpu.room 1 x c.own_turn.result y =
+    subst (λ (n : ℕ). HasTurned g.C.Cpu.meaning g.C.Cpu.state g.C.Cpu.room n x c.own_turn.result y) one c.own_turn.ensures in
+    events-take-instructions g.C.Cpu.meaning g.C.Cpu.state g.C.Cpu.room c.args.self.now.store boards c.args.b x y c.requires.good.logs at (c.requires.good.programs.each c.args.b x at).number
     (turned_event g.C.Cpu.meaning g.C.Cpu.state g.C.Cpu.room x y c.own_turn.result turned alone none)

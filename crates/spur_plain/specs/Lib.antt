@@ -1,0 +1,9 @@
+pub mod PlainMemory
+pub mod PlainHistory
+pub mod MemoryLaws
+pub mod Virtual
+pub mod EntryLaws
+pub mod Invisible
+pub mod Served
+pub mod Runs
+pub mod Needs

@@ -1,0 +1,4 @@
+pub mod TurnFacts
+pub mod EndFacts
+pub mod SeatFacts
+pub mod Sent
