@@ -14,8 +14,8 @@
 # The flags of a command.
 _spur_flags() {
     case $1 in
-        run) echo "--frames --lines --budget --counts --trace" ;;
-        sched) echo "--frames --lines --budget --counts --trace --late --watch" ;;
+        run) echo "--frames --lines --budget --ahead --counts --trace" ;;
+        sched) echo "--frames --lines --budget --ahead --counts --trace --late --watch" ;;
         check) echo "--budget" ;;
     esac
 }
@@ -46,7 +46,7 @@ _spur_flags_left() {
 # What a word may be, a line each. Of a number only those of --lines are few enough to be told.
 _spur_offers() {
     case ${COMP_WORDS[COMP_CWORD - 1]} in
-        '<' | '>' | --frames | --budget | --watch) return ;;
+        '<' | '>' | --frames | --budget | --ahead | --watch) return ;;
         --lines)
             printf '%s\n' 16 32 64 128 256 512 1024 2048 4096
             return

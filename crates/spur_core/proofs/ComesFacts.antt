@@ -15,6 +15,7 @@ use Rattle.spur_commute.proofs.LogFacts.{all_append}
 use Rattle.spur_cpu.specs.Meaning.{is_ending}
 use Rattle.spur_walk.specs.Laws.{need_of}
 use Rattle.spur_pager.specs.declared.fault.ServeFault.{ServeFault}
+use Rattle.spur_pager.specs.Ahead.{is_of_leaving, leaving_entries}
 use Rattle.spur_pager.specs.Served.{Does, IsCarriedOn, Keeps, appended}
 use Rattle.spur_pager.specs.Stand.{CarriesOn, IsServable, Stands}
 use Rattle.spur_pager.specs.View.{View}
@@ -22,6 +23,7 @@ use Rattle.spur_pager.proofs.JoinFacts.{carried_none, carried_then, keeps_then}
 use Rattle.spur_core.specs.Approach.{OnWay}
 use Rattle.spur_core.specs.Comes.{Comes, IsOfTurn, IsServedFault}
 use Rattle.spur_core.specs.Step.{EndsWithAnswer, OwnIsLast}
+use Rattle.spur_core.proofs.QuietFacts.{fault_past, own_quiet, quiet_all, quiet_then}
 use Rattle.spur_core.proofs.WayFacts.{keeps_same}
 
 -- entries of steps and of the pager
@@ -58,6 +60,7 @@ comes_none b at access w = record {
   keeps = keeps_same w;
   carries = λ (rest : Flat) (st : Stands rest w). record { carried = carried_none rest w w refl; stands = st };
   later = omega arith;
+  quiet = refl;
 }
 
 -- a turn goes on: with steps and the entry that they serve, which is the last of the board's own
@@ -88,12 +91,13 @@ comes_on b at access w u v z entries faults e comes way history room turn own ke
           let two = carries rest one.stands in
           record { carried = carried_then rest w u z entries (es ++ e ∷ []) comes.keeps one.carried two.carried; stands = two.stands };
       later = omega arith;
+      quiet = quiet_then entries (es ++ e ∷ []) comes.quiet (quiet_all (es ++ e ∷ []) (all_append (λ x. is_of_leaving x ≡ false) es (e ∷ []) way.quiet (own_quiet b e own, tt)));
     }
 
 -- a fault was served, or the swap failed
-pub comes_served : (b at : ℕ) (access : AccessKind) (kind : FaultKind) (w z y : View) (entries faults last : List Entry) (answer : Result (Unit {0}) ServeFault) → Comes b at access w z entries faults last
-    → Does b z kind at answer y → IsCarriedOn z y → Keeps z y → z.faults ≤ y.faults → Comes b at access w y (entries ++ appended z y) faults last
-comes_served b at access kind w z y entries faults last answer comes does carried keeps later =
+pub comes_served : (b at : ℕ) (access : AccessKind) (kind : FaultKind) (w z y : View) (entries faults : List Entry) (answer : Result (Unit {0}) ServeFault) → Comes b at access w z entries faults (entry.Fault b kind access at ∷ [])
+    → Does b z kind at answer y → IsCarriedOn z y → Keeps z y → z.faults ≤ y.faults → Comes b at access w y (entries ++ appended z y) faults (entry.Fault b kind access at ∷ [])
+comes_served b at access kind w z y entries faults answer comes does carried keeps later =
     let more : List Entry = appended z y in
     let long : length (entries ++ more) ≡ length entries + length more = length-append entries more in
     let r0 : z.room + length entries ≡ w.room = comes.room in
@@ -111,6 +115,7 @@ comes_served b at access kind w z y entries faults last answer comes does carrie
           let two = carried rest one.stands in
           record { carried = carried_then rest w z y entries more comes.keeps one.carried two.carried; stands = two.stands };
       later = omega arith;
+      quiet = ap leaving_entries (fault_past b kind access at more entries faults comes.own) ∙ comes.quiet;
     }
 
 -- a fault that was served is one of them
@@ -125,6 +130,7 @@ comes_again b at access kind w y entries faults served comes = record {
   keeps = comes.keeps;
   carries = comes.carries;
   later = comes.later;
+  quiet = comes.quiet;
 }
 
 -- such a state can be served

@@ -40,6 +40,7 @@ use Rattle.spur_pager.proofs.StoredFacts.{hit-stands-again}
 use Rattle.spur_core.specs.Approach.{IsOpenFor, open_only}
 use Rattle.spur_core.specs.Comes.{BecomesReady, Comes}
 use Rattle.spur_core.specs.Takes.{done_caches}
+use Rattle.spur_core.proofs.QuietFacts.{own_quiet, quiet_all}
 use Rattle.spur_core.proofs.ComesFacts.{comes_on, own_one, servable_now}
 use Rattle.spur_core.proofs.OpenForFacts.{done_needed}
 use Rattle.spur_core.proofs.RoundFacts.{nothing_at}
@@ -142,6 +143,7 @@ one_comes b at kind w z e is board own formed may needed leaves memory shares co
           let closed : AreCarriedIn rest w (nothing_beside n) z (nothing_beside (length z.caches)) (e ∷ []) = subst (λ (os : Beside). AreCarriedIn rest w (nothing_beside n) z os (e ∷ [])) none c in
           record { carried = record { told = closed.told; untold = closed.untold }; stands = stands rest st };
       later = omega arith;
+      quiet = quiet_all (e ∷ []) (own_quiet b e own, tt);
     }
 
 pub align_comes : (b at : ℕ) (kind : AccessKind) (w z : View) → b < length w.caches → at < table_start → is_aligned at ≡ false → z.history ≡ w.history ++ entry.Fault b fault.Align kind at ∷ [] → z.room + 1 ≡ w.room

@@ -67,13 +67,13 @@ others_own : (b n i : ℕ) (es : List Entry) → AllByRecursion (IsOfTurn b n) e
 others_own b n i [] all apart = refl
 others_own b n i (e ∷ es) all apart = ap (λ (t : Bool). if t then e ∷ own_entries es i else own_entries es i) (own_other e b i all.0.board apart) ∙ others_own b n i es all.1 apart
 
-formed_turn : (b n : ℕ) (es : List Entry) → AllByRecursion (IsOfTurn b n) es → AllByRecursion (IsFormed n) es
+pub formed_turn : (b n : ℕ) (es : List Entry) → AllByRecursion (IsOfTurn b n) es → AllByRecursion (IsFormed n) es
 formed_turn b n [] all = tt
 formed_turn b n (e ∷ es) all = (all.0.formed, formed_turn b n es all.1)
 
 module _ {C S : Type 0} (m : Meaning S) (state : C → S) (spare : C → ℕ) where
   -- a board of which only lines changed
-  board_seen : (start : Start S) (h k : List Entry) (i : ℕ) (olds : List (Board C)) (x : Board C) → FollowPrograms m state spare start h olds → OnlyItsLines olds i x → own_entries k i ≡ own_entries h i → FollowsProgram m state spare start k i x
+  pub board_seen : (start : Start S) (h k : List Entry) (i : ℕ) (olds : List (Board C)) (x : Board C) → FollowPrograms m state spare start h olds → OnlyItsLines olds i x → own_entries k i ≡ own_entries h i → FollowsProgram m state spare start k i x
   board_seen start h k i olds x all only same =
       let was = all.each i only.old only.there in
       let own : own_entries h i ≡ own_entries k i = sym same in

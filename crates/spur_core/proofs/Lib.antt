@@ -4,6 +4,7 @@ pub mod MergedFacts
 pub mod TallyFacts
 pub mod OpenForFacts
 pub mod WayFacts
+pub mod QuietFacts
 pub mod ComesFacts
 pub mod RoundFacts
 pub mod DoneFacts
@@ -13,6 +14,7 @@ pub mod AskFacts
 pub mod StepFacts
 pub mod GoodFacts
 pub mod OutcomeFacts
+pub mod ReadyFacts
 pub mod TurnFacts
 pub mod PartFacts
 pub mod FillFacts

@@ -32,13 +32,12 @@ at_start codes room cpus at i cpu there =
     at.each i (get_or codes i []) cpu (slice_get-get_or codes i [] (omega arith)) there
 
 pub loaded_may_begin : LoadedMayBegin
-loaded_may_begin unit options cpus u o ahead none at =
+loaded_may_begin unit options cpus u o none at =
     let codes : List (List Instr) = (opening_of unit options).code in
     let code_count : length codes ≡ length unit.boards = length-map unit.boards (λ (board : BoardText). board.code) in
     let segs_count : length (opening_of unit options).segs ≡ length unit.boards = length-map unit.boards (λ (board : BoardText). board.segs) in
     record {
       begins = accepted_may_begin unit options u o none;
-      ahead = ahead;
       count = at.count ∙ code_count ∙ sym segs_count;
       running = all_at (λ (cpu : PlainCpu). plain_wants (plain_of cpu) ≢ Ended) cpus (λ i cpu there.
           subst (λ (s : Plain). plain_wants s ≢ Ended) (sym (at_start codes options.budget cpus at i cpu there).state) (opened_wants (get_or codes i [])));

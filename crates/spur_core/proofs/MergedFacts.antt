@@ -22,7 +22,7 @@ use Rattle.spur_core.specs.Start.{IsStart, Start, opened_state}
 use Rattle.spur_core.proofs.MergeFacts.{joined_none}
 use Rattle.spur_core.proofs.SameFacts.{got_map, led_same, stands_same}
 
-caches_same : {C : Type 0} (bs : List (Board C)) → caches (board_lens {C = C}) (map emptied bs) ≡ caches (board_lens {C = C}) bs
+pub caches_same : {C : Type 0} (bs : List (Board C)) → caches (board_lens {C = C}) (map emptied bs) ≡ caches (board_lens {C = C}) bs
 caches_same [] = refl
 caches_same (b ∷ bs) = ap (λ (cs : List (List (Option Line))). b.cache ∷ cs) (caches_same bs)
 

@@ -8,7 +8,9 @@ use Rattle.spur_flat.specs.declared.access.AccessKind.{AccessKind}
 use Rattle.spur_flat.specs.declared.access.AccessKind.TheVariants as access
 use Rattle.spur_flat.specs.declared.access.FaultKind.{FaultKind}
 use Rattle.spur_flat.specs.declared.access.FaultKind.TheVariants as fault
+use Rattle.std.specs.List.{AllByRecursion}
 use Rattle.spur_flat.specs.declared.entry.Entry.{Entry}
+use Rattle.spur_flat.specs.Formed.{IsMade}
 use Rattle.spur_flat.specs.declared.entry.Entry.TheVariants as entry
 use Rattle.spur_flat.specs.declared.flat.Flat.{Flat}
 use Rattle.spur_flat.specs.History.{is_own}
@@ -26,6 +28,7 @@ use Rattle.spur_walk.proofs.OpenedFacts.{none_open}
 use Rattle.spur_pager.specs.declared.fault.ServeFault.{ServeFault}
 use Rattle.spur_pager.specs.Again.{ShowsSame}
 use Rattle.spur_pager.specs.Faults.{IsPast, faults_left}
+use Rattle.spur_frames.specs.Frames.{AreFrames}
 use Rattle.spur_pager.specs.Reserve.{turn_room}
 use Rattle.spur_pager.specs.Room.{room_for}
 use Rattle.spur_pager.specs.Served.{Does, HasFailed, HasFault, IsCarriedOn, IsServed, Keeps, MayFail, appended}
@@ -118,9 +121,9 @@ done_frugal b at need u v entries e tallies way is = record {
 }
 
 pub becomes_ready : (b at : ℕ) (access : AccessKind) (w u v : View) (entries faults : List Entry) → Comes b at access w u entries faults [] → Tallies b at (need_of access) u entries
-    → Approaches b at (need_of access) u v None → turn_room u b at (need_of access) ≤ u.room → BecomesReady b at access w v
-becomes_ready b at access w u v entries faults comes tallies a enough =
-    let room = steps-leave-room u v b at (need_of access) (length a.way.entries) a.way.stepped a.way.few in
+    → Approaches b at (need_of access) u v None → IsServable w → AreFrames u.frames → turn_room u b at (need_of access) ≤ u.room → BecomesReady b at access w v
+becomes_ready b at access w u v entries faults comes tallies a servable table enough =
+    let room = steps-leave-room u v b at (need_of access) (length a.way.entries) (servable_now b at access w u entries faults [] comes servable) table a.way.stepped a.way.few in
     let left : v.room + length a.way.entries ≡ u.room = a.way.room in
     record {
       entries = entries;
@@ -177,10 +180,10 @@ zero_or zero h = refl
 zero_or (suc n) h = absurd (h (omega arith))
 
 pub faulted : (b at : ℕ) (access : AccessKind) (kind : FaultKind) (w u v : View) (entries faults history : List Entry) (room : ℕ) → IsServable w → b < length w.caches → at < table_start → is_aligned at ≡ true
-    → Comes b at access w u entries faults [] → Tallies b at (need_of access) u entries → (a : Approaches b at (need_of access) u v (Some kind)) → turn_room u b at (need_of access) ≤ u.room
+    → Comes b at access w u entries faults [] → Tallies b at (need_of access) u entries → (a : Approaches b at (need_of access) u v (Some kind)) → AreFrames u.frames → turn_room u b at (need_of access) ≤ u.room
     → history ≡ v.history ++ entry.Fault b kind access at ∷ [] → room + 1 ≡ v.room
     → IsFaulted b at access kind w (record v { history = history; room = room }) (entries ++ (a.way.entries ++ entry.Fault b kind access at ∷ [])) faults
-faulted b at access kind w u v entries faults history room servable within user aligned comes tallies a enough history_is room_is =
+faulted b at access kind w u v entries faults history room servable within user aligned comes tallies a table enough history_is room_is =
     let need : Need = need_of access in
     let e : Entry = entry.Fault b kind access at in
     let z : View = record v { history = history; room = room } in
@@ -205,7 +208,7 @@ faulted b at access kind w u v entries faults history room servable within user 
     (record { boards = refl; lines = refl; memory = refl; slots = refl; tells = refl; ahead = refl }) refl carries in
     let keeps_past = stepped-keeps-faults u v b at way.stepped in
     let away : IsPast v b at kind → ⊥ = not_past v b at access kind servable_v within_v user a.answered in
-    let leaves = steps-leave-room u v b at need (length way.entries) way.stepped way.few in
+    let leaves = steps-leave-room u v b at need (length way.entries) servable_u table way.stepped way.few in
     let left : v.room + length way.entries ≡ u.room = way.room in
     record {
       comes = comes_z;
@@ -262,13 +265,13 @@ nothing_at (suc n) (suc i) = nothing_at n i
 like_self : (F : Flat) → IsValidFlat F → IsLike F F
 like_self F valid = record { pages = refl; tables = refl; frames = refl; words = refl; table = refl; swap = valid.swap }
 
--- nothing is open after it was served
-served_settled : (b at : ℕ) (kind : FaultKind) (z y : View) (answer : Result (Unit {0}) ServeFault) → IsServable z → b < length z.caches → Does b z kind at answer y → IsCarriedOn z y → Keeps z y → IsSettled (appended z y)
-served_settled b at kind z y answer servable within does carried keeps =
+-- nothing is open after entries that are carried to where nothing is
+pub carried_settled : (b : ℕ) (z y : View) → IsServable z → b < length z.caches → AllByRecursion (IsMade b (length z.caches)) (appended z y) → IsCarriedOn z y → IsSettled (appended z y)
+carried_settled b z y servable within made carried =
     let on = carried servable.rest servable.stands in
     let leads = on.carried.untold (standing_flat servable.rest z) (like_self (standing_flat servable.rest z) servable.stands.valid) in
     let long : b < length (none_open (length z.caches)) = subst (λ (n : ℕ). b < n) (sym (length-replicate (length z.caches) [])) within in
-    settled_open b (none_open (length z.caches)) (appended z y) (made_board b (length z.caches) (appended z y) does.made) long
+    settled_open b (none_open (length z.caches)) (appended z y) (made_board b (length z.caches) (appended z y) made) long
     (ap (λ (os : List (List Entry)). open_at os b) leads.opened ∙ nothing_at (length y.caches) b)
 
 -- so the turn may go on
@@ -299,14 +302,14 @@ goes_on b at access kind w z y entries faults user f goes does carried served ke
     let zero : fault_count other more ≡ 0 = made_no_fault other b (length z.caches) more does.made in
     omega arith in
     record {
-      comes = comes_again b at access kind w y (entries ++ more) faults goes (comes_served b at access kind w z y entries faults (entry.Fault b kind access at ∷ []) (Ok (tt {0})) f.comes does carried keeps later);
+      comes = comes_again b at access kind w y (entries ++ more) faults goes (comes_served b at access kind w z y entries faults (Ok (tt {0})) f.comes does carried keeps later);
       tallies = record {
         once = λ other. subst (λ (n : ℕ). n ≤ 1) (sym (same other)) (f.once other);
         past = λ other some.
             ⊎_elim (λ (is : other ≡ kind). subst (IsPast y b at) (sym is) falls.past) (λ (past : IsPast z b at other). falls.still other past)
             (f.past other (subst (λ (n : ℕ). 1 ≤ n) (same other) some));
         fetches = omega arith;
-        settled = settled_then entries more f.settled (served_settled b at kind z y (Ok (tt {0})) f.servable f.within does carried keeps);
+        settled = settled_then entries more f.settled (carried_settled b z y f.servable f.within does.made carried);
       };
       room = omega arith;
       fewer = falls.fewer;
@@ -343,7 +346,7 @@ ends_by_swap b at access kind w z y entries faults answer f fails err does carri
       faults = faults;
       kind = kind;
       asked = kinds_failed z kind fail.why fail.holds.may;
-      comes = comes_served b at access kind w z y entries faults (entry.Fault b kind access at ∷ []) answer f.comes does carried keeps later;
+      comes = comes_served b at access kind w z y entries faults answer f.comes does carried keeps later;
       rose = omega arith;
       frugal = record {
         once = λ other.
@@ -371,9 +374,9 @@ succeeded_with P (Err why) e h = cc
 pub enough_steps : (w : View) (b at : ℕ) (need : Need) → turn_room w b at need ≤ w.room → steps_left (get_or w.caches b []) at need ≤ w.room
 enough_steps w b at need enough = omega arith
 
-pub fault_room : (u v : View) (b at : ℕ) (need : Need) (result : Option FaultKind) → Approaches b at need u v result → turn_room u b at need ≤ u.room → 1 ≤ v.room
-fault_room u v b at need result a enough =
-    let leaves = steps-leave-room u v b at need (length a.way.entries) a.way.stepped a.way.few in
+pub fault_room : (u v : View) (b at : ℕ) (need : Need) (result : Option FaultKind) → Approaches b at need u v result → IsServable u → AreFrames u.frames → turn_room u b at need ≤ u.room → 1 ≤ v.room
+fault_room u v b at need result a servable table enough =
+    let leaves = steps-leave-room u v b at need (length a.way.entries) servable table a.way.stepped a.way.few in
     let left : v.room + length a.way.entries ≡ u.room = a.way.room in
     omega arith
 

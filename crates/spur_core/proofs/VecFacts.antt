@@ -1,11 +1,15 @@
--- A vector of which an element is written back is as it was.
-use Rattle.std.proofs.Common.{◌≡◌, ℕ, ◌≤◌, ap, sym, subst, List, length, Some}
+-- A vector of which an element is written back is as it was, and so is one whose elements are.
+use Rattle.std.proofs.Common.{◌≡◌, ◌∙◌, ℕ, ◌≤◌, ◌++◌, ap, sym, subst, List, drop, length, take, Some}
 use Rattle.std.specs.Prelude.{slice_get}
 use Rattle.std.specs.Prelude.{Vec}
-use Rattle.std.specs.Vec.{with_item}
+use Rattle.std.specs.Vec.{with_item, with_items}
 use Rattle.std.proofs.Math.ListN.{set}
 use Rattle.std.proofs.Math.Nat.{ℕ_set}
 use Rattle.std.proofs.Math.Bridge.{le_prop}
+use Rattle.spur_pager.specs.declared.store.Store.{Store}
+use Rattle.spur_board.specs.declared.board.Board.{Board}
+use Rattle.spur_core.specs.declared.world.World.{World}
+use Rattle.spur_core.proofs.MergeFacts.{written_back}
 use Rattle.spur_core.proofs.OwnLogFacts.{set_back}
 
 -- what a vector says of its length has one proof at most
@@ -19,3 +23,13 @@ same_vector {X} {Z} v items same =
 
 pub vector_back : {X Z : Type 0} (v : Vec X Z) (i : ℕ) (x : X) → slice_get v.items i ≡ Some x → with_item v i x ≡ v
 vector_back v i x there = same_vector v (set v.items i x) (sym (set_back v.items i x there)) (with_item v i x).ok
+
+pub vector_same : {X Z : Type 0} (v : Vec X Z) (items : List X) → items ≡ v.items → with_items v items ≡ v
+vector_same {X} {Z} v items same =
+    let long : v.len ≡ length items = v.ok.0 ∙ ap (λ (xs : List X). length xs) (sym same) in
+    same_vector v (take v.len (items ++ drop (length items) v.items)) (sym (written_back items v.items v.len long ∙ same)) (with_items v items).ok
+
+-- a world whose store and boards are the same
+pub world_same : {C B : Type 0} (w : World C B) (store : Store B) (boards : List (Board C)) → store ≡ w.store → boards ≡ w.boards.items → record w { store = store; boards = with_items w.boards boards } ≡ w
+world_same {C} {B} w store boards stays same =
+    ap (λ (t : Store B). record w { store = t; boards = with_items w.boards boards }) stays ∙ ap (λ xs. record w { boards = xs }) (vector_same w.boards boards same)

@@ -32,6 +32,8 @@ use Rattle.spur_pager.specs.Opened.{AreCarriedIn, state_in}
 use Rattle.spur_pager.specs.Served.{Keeps, tells}
 use Rattle.spur_pager.specs.Stand.{CarriesOn, Stands, standing_flat}
 use Rattle.spur_pager.specs.View.{View}
+use Rattle.spur_pager.specs.Ahead.{is_of_leaving}
+use Rattle.spur_pager.proofs.AheadStepFacts.{moved_other}
 use Rattle.spur_pager.proofs.AgainFacts.{same-has-stepped, step-has-stepped, steps-add-up, steps-stand-again}
 use Rattle.spur_pager.proofs.JoinFacts.{keeps_then}
 use Rattle.spur_pager.proofs.OpenedFacts.{access-is-carried-in, step-is-carried-in}
@@ -71,6 +73,7 @@ way_none b at need w walk = record {
   room = add-zero w.room;
   made = tt;
   idle = tt;
+  quiet = tt;
   opens = nothing-open w.caches b at need;
   stepped = same-has-stepped w w walk (record { caches = refl; memory = refl; shares = record { frames = refl; pages = refl; slots = refl } });
   keeps = keeps_same w;
@@ -120,7 +123,7 @@ way_more b at need w u v e within user way s h history room shares faults ahead 
     let size : length (way.entries ++ e ∷ []) ≡ length way.entries + 1 = small_length way.entries e in
     let was_room : u.room + length way.entries ≡ w.room = way.room in
     let serves = access-served u.caches u.memory b at need e walk here user h in
-    let after = steps-add-up w u v way.stepped (step-has-stepped u v b at (access_plan u.caches u.memory b at need) s shares) in
+    let after = steps-add-up w u v way.stepped (step-has-stepped u v b at need walk here user s shares) in
     record {
       entries = way.entries ++ e ∷ [];
       opened = now;
@@ -128,6 +131,7 @@ way_more b at need w u v e within user way s h history room shares faults ahead 
       room = omega arith;
       made = all-push (IsMade b n) way.entries e way.made (subst (λ (k : ℕ). IsMade b k e) way.keeps.boards (access-made u.caches u.memory b at need e walk.agree here user h));
       idle = all-push (λ (x : Entry). is_serving x ≡ false) way.entries e way.idle (bus_idle e serves.bus);
+      quiet = all-push (λ (x : Entry). is_of_leaving x ≡ false) way.entries e way.quiet (moved_other b at (access_plan u.caches u.memory b at need) e h);
       opens = o.opens;
       stepped = after;
       keeps = keeps_then w u v way.keeps (record { boards = s.count; lines = s.lines; memory = s.size; slots = shares.slots; tells = ap tells shares.pages; ahead = ahead });

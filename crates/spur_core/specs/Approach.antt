@@ -20,6 +20,7 @@ use Rattle.spur_walk.specs.Laws.{IsServing, owned_for}
 use Rattle.spur_walk.specs.Look.{look_of}
 use Rattle.spur_walk.specs.Plan.{access_plan}
 use Rattle.spur_walk.specs.Steps.{answer_of}
+use Rattle.spur_pager.specs.Ahead.{is_of_leaving}
 use Rattle.spur_pager.specs.Again.{HasStepped}
 use Rattle.spur_pager.specs.Opened.{AreCarriedIn}
 use Rattle.spur_pager.specs.Served.{Keeps}
@@ -48,8 +49,8 @@ pub record CarriesOpen (rest : Flat) (w v : View) (b : ℕ) (opened entries : Li
   pub carried : AreCarriedIn rest w (nothing_beside (length w.caches)) v (open_only (length w.caches) b opened) entries
   pub stands : Stands rest v
 
--- Steps were done towards an access of board b, and their entries appended. None of these serves, and there are no more
--- of them, and no more fills and claims, than were left. The swap object was not called.
+-- Steps were done towards an access of board b, and their entries appended. None of these serves, or is one by which a page
+-- leaves, and there are no more of them, and no more fills and claims, than were left. The swap object was not called.
 pub record OnWay (b at : ℕ) (need : Need) (w v : View) : Type 0 where
   pub entries : List Entry
   pub opened : List Entry
@@ -57,6 +58,7 @@ pub record OnWay (b at : ℕ) (need : Need) (w v : View) : Type 0 where
   pub room : v.room + length entries ≡ w.room
   pub made : AllByRecursion (IsMade b (length w.caches)) entries
   pub idle : AllByRecursion (λ e. is_serving e ≡ false) entries
+  pub quiet : AllByRecursion (λ e. is_of_leaving e ≡ false) entries
   pub opens : IsOpenFor v.caches b at need opened
   pub stepped : HasStepped w v
   pub keeps : Keeps w v

@@ -12,12 +12,11 @@ use Rattle.spur_board.specs.declared.board.Board.{Board}
 use Rattle.spur_board.specs.Boards.{IsNew}
 use Rattle.spur_core.specs.declared.world.Beginning.{Beginning}
 
--- A world may begin with an opening and these processors: a run may begin with the opening, nothing is flushed ahead so far,
--- there is a processor for each board, each of them wants something, and has room for what the budget lets it show. It looks
--- at no code, and not at where the opening came from.
+-- A world may begin with an opening and these processors: a run may begin with the opening, there is a processor for each
+-- board, each of them wants something, and has room for what the budget lets it show. It looks at no code, and not at where
+-- the opening came from.
 pub record IsBeginning {C S : Type 0} (m : Meaning S) (state : C → S) (spare : C → ℕ) (opening : Opening) (cpus : List C) : Type 0 where
   pub begins : MayBegin opening
-  pub ahead : opening.options.ahead ≡ 0
   pub count : length cpus ≡ board_count opening
   pub running : All (λ cpu. m.wants (state cpu) ≢ Ended) cpus
   pub room : All (λ cpu. opening.options.budget ≤ spare cpu) cpus

@@ -20,6 +20,7 @@ use Rattle.spur_pager.specs.View.{View}
 use Rattle.spur_core.specs.declared.reach.Reached.{Reached}
 use Rattle.spur_core.specs.declared.reach.Reached.TheVariants as reached
 use Rattle.spur_core.specs.Approach.{OnWay, answer_in}
+use Rattle.spur_core.specs.Quiet.{IsQuiet}
 use Rattle.spur_core.specs.Step.{EndsWithAnswer}
 use Rattle.spur_core.specs.Tally.{IsFrugal}
 
@@ -35,7 +36,8 @@ pub record IsServedFault (b at : ℕ) (access : AccessKind) (e : Entry) : Type 0
   pub served : is_ending kind ≡ false
 
 -- Board b's turn has come from w to v by these entries, and nothing is open: they are carried and the state stands
--- again. The board's own among them are faults of the access that were served, and then the last ones.
+-- again. The board's own among them are faults of the access that were served, and then the last ones. Before the first
+-- fault no page leaves.
 pub record Comes (b at : ℕ) (access : AccessKind) (w v : View) (entries faults last : List Entry) : Type 0 where
   pub history : v.history ≡ w.history ++ entries
   pub room : v.room + length entries ≡ w.room
@@ -45,6 +47,7 @@ pub record Comes (b at : ℕ) (access : AccessKind) (w v : View) (entries faults
   pub keeps : Keeps w v
   pub carries : (rest : Flat) → Stands rest w → CarriesOn rest w v entries
   pub later : w.faults ≤ v.faults
+  pub quiet : IsQuiet entries
 
 -- the access is ready, after faults that were served and the steps behind them; with its own entry the turn is frugal
 pub record BecomesReady (b at : ℕ) (access : AccessKind) (w v : View) : Type 0 where

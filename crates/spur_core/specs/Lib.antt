@@ -7,6 +7,7 @@ pub mod Divided
 pub mod Tally
 pub mod Approach
 pub mod Step
+pub mod Quiet
 pub mod Comes
 pub mod Takes
 pub mod Turn

@@ -26,6 +26,6 @@ pub record AreAtBeginning (codes : List (List Instr)) (room : ℕ) (cpus : List 
 -- its code
 abbrev pub LoadedMayBegin : Type 0
 LoadedMayBegin = (unit : Program) (options : Options) (cpus : List PlainCpu)
-    → IsUnit unit → IsOptions options → options.ahead ≡ 0 → load_fault_of unit options ≡ None
+    → IsUnit unit → IsOptions options → load_fault_of unit options ≡ None
     → AreAtBeginning (opening_of unit options).code options.budget cpus
     → IsBeginning plain plain_of room_of (opening_of unit options) cpus

@@ -3,8 +3,7 @@
 ghost use Rattle.spur_core.specs.Loaded.{LoadedMayBegin};
 
 /// A world may begin with what the loader gives for a program without a load fault, and with plain processors of its code:
-/// nothing is to be flushed ahead, and each processor is at the beginning of its board's code, with room for the values that
-/// the budget lets it show.
+/// each processor is at the beginning of its board's code, with room for the values that the budget lets it show.
 pub fn loaded_may_begin()
     ensures { LoadedMayBegin }
 {}

@@ -59,6 +59,8 @@ pub(crate) fn reach<T: HasCache, B: Backing>(
 {
     let need = need_for(access);
     loop {
+        // so that the check knows the leaving frame to be a taken one
+        let _ = store.frames.frames();
         let Some(kind) = approach(boards, store, b, at, need) else {
             return Reached::Ready;
         };

@@ -1,6 +1,6 @@
 //! The frame table.
 
-ghost use Rattle.std.specs.Prelude.{◌≡◌, ◌+◌, ◌≤◌, ◌<◌, IfOk, IfSome, IsSome, None, Some, length};
+ghost use Rattle.std.specs.Prelude.{◌≡◌, ◌+◌, ◌≤◌, ◌<◌, IfOk, IfSome, IsSome, None, Some, is_none, length};
 ghost use Rattle.spur_frames.specs.Frames.{AreFrames, IsFrame, IsFree, IsTaken, IsTakenOf, holder_of, least_free, looked_at, new_frames, passed, place_after, release_frame, take_frame, taken_from};
 
 use std::alloc::{AllocError, Global};
@@ -58,6 +58,13 @@ impl FrameTable {
         ensures table { AreFrames self.now }
     {
         self.held.len() as u32
+    }
+
+    /// Whether no frame is free. Looks at no frame: the table keeps the number of its free frames.
+    pub fn is_full(&self) -> bool
+        ensures full { result ≡ is_none (least_free self.now) }
+    {
+        self.free == 0
     }
 
     /// The free frame with the least number; `None` exactly where none is free. Looks at each frame up

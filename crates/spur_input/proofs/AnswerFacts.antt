@@ -91,10 +91,10 @@ load_is_refused options input unit (Object kind byte) within is h = absurd h
 load_is_refused options input unit (Trace kind line) within is h = absurd h
 load_is_refused options input unit (Load why) within is h = IsNotLoaded within unit is why h
 
-pub is_loaded : (unit : Program) (options : Options) (opening : Opening) → IsUnit unit → IsOptions options → options.ahead ≡ 0 → load_fault_of unit options ≡ None
+pub is_loaded : (unit : Program) (options : Options) (opening : Opening) → IsUnit unit → IsOptions options → load_fault_of unit options ≡ None
     → opening ≡ opening_of unit options → IsLoadedOpening opening
-is_loaded unit options opening limits range ahead loads is =
-    subst IsLoadedOpening (sym is) record { unit = unit; limits = limits; range = range; ahead = ahead; loads = loads; is = refl }
+is_loaded unit options opening limits range loads is =
+    subst IsLoadedOpening (sym is) record { unit = unit; limits = limits; range = range; loads = loads; is = refl }
 
 -- ---- a text that is assembled
 

@@ -56,6 +56,5 @@ pub record IsLoadedOpening (opening : Opening) : Type 0 where
   pub unit : Program
   pub limits : IsUnit unit
   pub range : IsOptions opening.options
-  pub ahead : opening.options.ahead ≡ 0
   pub loads : load_fault_of unit opening.options ≡ None
   pub is : opening ≡ opening_of unit opening.options

@@ -29,7 +29,6 @@ pub fn program_opening(
 ) -> Result<Opening, NotAccepted>
     requires within { length input.now ≤ program_limit }
     requires options { IsOptions options.now }
-    requires ahead { options.now.ahead ≡ 0 }
     ensures opened { IfOk result (IsOpeningOf options.now input.now) }
     ensures loaded { IfOk result IsLoadedOpening }
     ensures refused { (refusal : Reason) → result ≡ Err (NotAccepted.Refused refusal)

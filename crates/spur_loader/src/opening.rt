@@ -13,7 +13,7 @@ pub struct Options {
     pub lines: u32,
     /// How many instructions each board may do, 1 to 250,000.
     pub budget: u32,
-    /// How many blocks are flushed ahead in a turn of the bus, at most 128.
+    /// How many lines of a leaving page are flushed ahead of need in a turn on the bus, at most 128.
     pub ahead: u32,
 }
 

@@ -20,9 +20,9 @@ use std::{env, io};
 
 /// What `--help` writes.
 const HELP: &[u8] =
-    b"usage: spur run [--frames N] [--lines N] [--budget N] [--counts] [--trace] < PROGRAM\n       \
-    spur sched START [--frames N] [--lines N] [--budget N] [--counts] [--trace]\n                        \
-    [--late] [--watch A] .. < PROGRAM\n       \
+    b"usage: spur run [--frames N] [--lines N] [--budget N] [--ahead N] [--counts] [--trace] < PROGRAM\n       \
+    spur sched START [--frames N] [--lines N] [--budget N] [--ahead N] [--counts]\n                        \
+    [--trace] [--late] [--watch A] .. < PROGRAM\n       \
     spur check [--budget N] < TEXT_AND_TRACE\n       \
     spur asm < TEXT > OBJECT\n       \
     spur gen NUMBER BOARDS PAGES > TEXT\n       \
@@ -57,6 +57,8 @@ const HELP: &[u8] =
     flags of run and sched:\n  \
     --frames N  how many frames of memory hold data, 1 to 3900; without it 256\n  \
     --lines N   how many lines each cache has, a power of two from 16 to 4096; without it 4096\n  \
+    --ahead N   how many lines of a page that leaves are flushed ahead of need in a turn on the bus, 0 to 128;\n              \
+    without it 0, and a page leaves when its frame is wanted\n  \
     --counts    behind the report stands how many entries of each kind the history has\n  \
     --trace     behind all that stands the history, as the trace that check reads\n\
     flag of run, sched and check, which needs the budget of the run:\n  \

@@ -126,6 +126,6 @@ pub moved-falls : MovedFalls
 moved-falls w v b at need e servable within user s shares moved =
     let falls = steps-fall w.caches w.memory b at need e servable.stands.walk within user moved in
     record {
-      keeps = stepped-keeps-faults w v b at (step-has-stepped w v b at _ s shares);
+      keeps = stepped-keeps-faults w v b at (step-has-stepped w v b at need servable.stands.walk within user s shares);
       steps = subst (λ (cs : List (List (Option Line))). steps_left (get_or cs b []) at need < steps_left (get_or w.caches b []) at need) (sym s.caches) falls.steps;
     }

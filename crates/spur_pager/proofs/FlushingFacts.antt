@@ -98,7 +98,7 @@ flushing_then b page w u v r s =
 
 -- one line: the first of the page in cache `holder`, before which no cache has any
 
-start_same : (tag : ℕ) → block_start_of (block_address tag) ≡ block_address tag
+pub start_same : (tag : ℕ) → block_start_of (block_address tag) ≡ block_address tag
 start_same tag = let r : tag * 2 ^ 5 / 2 ^ 5 * 2 ^ 5 ≡ tag * 2 ^ 5 = omega arith in r
 
 -- what is known of it
@@ -110,6 +110,7 @@ pub record IsNext (page holder : ℕ) (u : View) (number : ℕ) (rest : List ℕ
   pub has : HasLine u.caches holder (block_address first.line.tag) is_alive
   pub leaving : IsLeavingBlock u (block_address first.line.tag)
   pub room : 1 ≤ u.room
+  pub more : 1 ≤ page_line_count u.caches page
 
 pub next_line : (page holder : ℕ) (u : View) (number : ℕ) (rest : List ℕ) → MayFlush page u → holder < length u.caches → AreFlushed u.caches holder page → places_in u.caches holder page ≡ number ∷ rest
     → IsNext page holder u number rest
@@ -139,6 +140,7 @@ next_line page holder u number rest m within before places =
         leaving = ap (λ (e : ℕ). is_valid e && is_leaving e) entry ∙ ap (λ (t : Bool). t && is_leaving (entry_in u page)) m.leaving.valid ∙ m.leaving.leaving;
       };
       room = some_room (page_line_count u.caches page) (length (flushes_from 0 0 page (slice_set u.caches holder (slice_set lines first.slot None)))) u.room (ap (λ (es : List Entry). length es) all) spare;
+      more = some_more (page_line_count u.caches page) (length (flushes_from 0 0 page (slice_set u.caches holder (slice_set lines first.slot None)))) (ap (λ (es : List Entry). length es) all);
     }
   where
     page_same : (tag page : ℕ) → tag / 128 ≡ page → page_of (block_start_of (block_address tag)) ≡ page_of (page_address page)
@@ -146,6 +148,9 @@ next_line page holder u number rest m within before places =
 
     some_room : (all others room : ℕ) → all ≡ suc others → all ≤ room → 1 ≤ room
     some_room all others room is enough = omega arith
+
+    some_more : (all others : ℕ) → all ≡ suc others → 1 ≤ all
+    some_more all others is = omega arith
 
 -- the caches without it
 dropped_is : (page holder : ℕ) (u : View) (number : ℕ) (rest : List ℕ) → holder < length u.caches → (n : IsNext page holder u number rest)

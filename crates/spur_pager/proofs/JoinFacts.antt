@@ -1,5 +1,5 @@
 -- Acts one after another.
-use Rattle.std.proofs.Common.{◌≡◌, ◌∙◌, ℕ, ◌+◌, ap, sym, refl, subst, List, [], ◌∷◌, ◌++◌, length, Option, Some, None, arith}
+use Rattle.std.proofs.Common.{◌≡◌, ◌∙◌, ℕ, ◌+◌, ap, sym, refl, subst, List, [], ◌∷◌, ◌++◌, length, take, Option, Some, None, arith}
 use Rattle.std.proofs.lemmas.List.{append-nil, append_assoc, length-append}
 use Rattle.spur_flat.specs.declared.flat.Flat.{Flat}
 use Rattle.spur_flat.specs.declared.entry.Entry.{Entry}
@@ -8,7 +8,7 @@ use Rattle.spur_flat.specs.Untold.{IsLike, LeadsUntold}
 use Rattle.spur_flat.proofs.PieceFacts.{carried-append, untold-append}
 use Rattle.spur_pager.specs.View.{View}
 use Rattle.spur_pager.specs.Stand.{AreCarried, CarriesOn, Stands, standing_state, standing_flat}
-use Rattle.spur_pager.specs.Acts.{Act, Flushed, Flushes, Hold, IsDone, Loaded, Loads, NoAct, Writes, Written, flushed_hold, flushes_from, loaded_hold, written_in}
+use Rattle.spur_pager.specs.Acts.{Act, Flushed, FlushedFirst, Flushes, FlushesFirst, Hold, IsDone, Loaded, Loads, NoAct, Writes, Written, after_flushes, flushed_hold, flushes_from, loaded_hold, written_in}
 use Rattle.spur_pager.specs.Runs.{Runs}
 use Rattle.spur_pager.specs.Served.{Keeps, hold_of, tells}
 use Rattle.spur_pager.proofs.MadeFacts.{made_then}
@@ -21,6 +21,10 @@ done-append b (Writes g e change ∷ acts) second from mid to some more (Written
 done-append b (Flushes page ∷ acts) second from mid to some more (Flushed page1 acts1 from1 to1 rest done) later =
     subst (λ (es : List Entry). IsDone b (Flushes page ∷ (acts ++ second)) from es to) (sym (append_assoc (flushes_from b 0 page from.caches) rest more))
     (Flushed page (acts ++ second) from to (rest ++ more) (done-append b acts second (flushed_hold page from) mid to rest more done later))
+done-append b (FlushesFirst page count ∷ acts) second from mid to some more (FlushedFirst page1 count1 acts1 from1 to1 rest done) later =
+    let piece : List Entry = take count (flushes_from b 0 page from.caches) in
+    subst (λ (es : List Entry). IsDone b (FlushesFirst page count ∷ (acts ++ second)) from es to) (sym (append_assoc piece rest more))
+    (FlushedFirst page count (acts ++ second) from to (rest ++ more) (done-append b acts second (after_flushes piece from) mid to rest more done later))
 done-append b (Loads frame ∷ acts) second from mid to some more (Loaded frame1 words acts1 from1 to1 piece long done) later =
     Loaded frame words (acts ++ second) from to (some ++ more) long (done-append b acts second (loaded_hold frame words from) mid to some more done later)
 

@@ -26,6 +26,7 @@ pub mod StandingFacts
 pub mod BoundFacts
 pub mod FlushFacts
 pub mod FlushingFacts
+pub mod AheadFacts
 pub mod LoadFacts
 pub mod SpareFacts
 pub mod TakenFacts
@@ -44,3 +45,4 @@ pub mod OpeningFacts
 pub mod OpenedFacts
 pub mod StoredFacts
 pub mod FewFacts
+pub mod AheadStepFacts

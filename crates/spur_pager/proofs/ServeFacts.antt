@@ -76,7 +76,7 @@ same_frame w at frame other l is =
     subst (HasLeavingFrame w at) (some_same other frame (sym l.leaving ∙ is)) l
 
 -- where a frame is free, the least one is found
-some_free : (frames : Frames) (frame : ℕ) → IsFree frames frame → IsSome (least_free frames)
+pub some_free : (frames : Frames) (frame : ℕ) → IsFree frames frame → IsSome (least_free frames)
 some_free frames frame free =
     none_or_some (least_free frames)
     (λ (full : least_free frames ≡ None). some_not_none (holder_of frames frame) ((none-is-free frames).0 full frame (record { low = free.low; high = free.high })) free.free)

@@ -27,7 +27,7 @@ use Rattle.spur_flat.proofs.FormedFacts.{own_of_made}
 use Rattle.spur_pager.proofs.PlaceFacts.{word_page}
 
 -- what was appended is the piece
-piece_is : (b : ℕ) (acts : List Act) (w v : View) (r : Runs b acts w v) → r.piece ≡ appended w v
+pub piece_is : (b : ℕ) (acts : List Act) (w v : View) (r : Runs b acts w v) → r.piece ≡ appended w v
 piece_is b acts w v r = sym (ap (drop (length w.history)) r.history ∙ drop-append_seam w.history r.piece)
 
 pub same_entry_address : (at : ℕ) → entry_address_of (page_address (page_of at)) ≡ entry_address_of at
@@ -38,7 +38,7 @@ pub entry_at : (w : View) (at : ℕ) → entry_in w (page_of at) ≡ word_of (fl
 entry_at w at = word_page (flat_in w) (page_address (page_of at)) at (page_again (page_of at))
 
 -- the frame table has the same frames after each course
-record HasSameFrames (before after : Frames) : Type 0 where
+pub record HasSameFrames (before after : Frames) : Type 0 where
   pub first : after.first ≡ before.first
   pub count : length after.held ≡ length before.held
 

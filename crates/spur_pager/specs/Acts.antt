@@ -1,5 +1,5 @@
 -- What the pager does, act by act, and the entries that each act appends.
-use Rattle.std.specs.Prelude.{ℕ, ◌≡◌, ◌+◌, true, false, if◌then◌else◌, List, [], ◌∷◌, ◌++◌, get_or, length, map, slice_set, Option, Some, None}
+use Rattle.std.specs.Prelude.{ℕ, ◌≡◌, ◌+◌, true, false, if◌then◌else◌, List, [], ◌∷◌, ◌++◌, get_or, length, map, slice_set, take, Option, Some, None}
 use Rattle.spur_addr.specs.Address.{entry_address_of, page_address}
 use Rattle.spur_addr.specs.PageEntry.{protection_of, swapped_of, with_bit}
 use Rattle.spur_cache.specs.declared.line.Line.{Line}
@@ -9,6 +9,7 @@ use Rattle.spur_addr.specs.Pages.{with_page}
 use Rattle.spur_flat.specs.declared.entry.Entry.{Entry}
 use Rattle.spur_flat.specs.declared.entry.Entry.TheVariants.{BlockFlush, Leave, PageOut, PageIn, SetRef, SetDirty, ClearRef}
 use Rattle.spur_flat.specs.Pager.{word_of, brought_entry}
+use Rattle.spur_bus.specs.Boards.{dropped, line_of_block}
 use Rattle.spur_bus.specs.Calls.{flushed}
 use Rattle.spur_walk.specs.declared.plan.Plan.TheVariants as plan
 use Rattle.spur_walk.specs.declared.step.Walked.TheVariants as walked
@@ -82,15 +83,29 @@ flushed_all page memory (lines ∷ rest) = flushed_all page (flushed_lines page 
 abbrev pub flushed_hold : ℕ → Hold → Hold
 flushed_hold page h = record { caches = map (without_page page) h.caches; memory = flushed_all page h.memory h.caches }
 
+-- what the entry of a flush does: its block is dropped from the cache that it names, and written to memory where that
+-- cache owned it; and what such entries do, one after another
+abbrev pub after_flush : Entry → Hold → Hold
+after_flush (BlockFlush board holder at) h = record {
+  caches = dropped h.caches holder at;
+  memory = flushed h.memory at (line_of_block h.caches holder at);
+}
+after_flush e h = h
+
+abbrev pub after_flushes : List Entry → Hold → Hold
+after_flushes [] h = h
+after_flushes (e ∷ es) h = after_flushes es (after_flush e h)
+
 -- a frame with the words of a page
 abbrev pub loaded_hold : ℕ → List ℕ → Hold → Hold
 loaded_hold frame words h = record h { memory = with_page h.memory frame words }
 
--- An act of the pager: the entry of the page of g is changed, with an entry of the history; a page's lines are flushed; a
--- page is read from swap into a frame.
+-- An act of the pager: the entry of the page of g is changed, with an entry of the history; a page's lines are flushed,
+-- or so many of the first of them; a page is read from swap into a frame.
 pub data Act : Type 0 where
   Writes : (g : ℕ) → Entry → (ℕ → ℕ) → Act
   Flushes : (page : ℕ) → Act
+  FlushesFirst : (page count : ℕ) → Act
   Loads : (frame : ℕ) → Act
 
 -- What acts of board b do, and the entries that they append. Before the entry of a page is changed, `advance_entry` brings
@@ -101,6 +116,9 @@ pub data IsDone (b : ℕ) : List Act → Hold → List Entry → Hold → Type 0
       → IsFetch b g from fetched mid → IsDone b acts (written_in b g change mid) rest to → IsDone b (Writes g e change ∷ acts) from (fetched ++ e ∷ rest) to
   Flushed : (page : ℕ) (acts : List Act) (from to : Hold) (rest : List Entry)
       → IsDone b acts (flushed_hold page from) rest to → IsDone b (Flushes page ∷ acts) from (flushes_from b 0 page from.caches ++ rest) to
+  FlushedFirst : (page count : ℕ) (acts : List Act) (from to : Hold) (rest : List Entry)
+      → IsDone b acts (after_flushes (take count (flushes_from b 0 page from.caches)) from) rest to
+      → IsDone b (FlushesFirst page count ∷ acts) from (take count (flushes_from b 0 page from.caches) ++ rest) to
   Loaded : (frame : ℕ) (words : List ℕ) (acts : List Act) (from to : Hold) (piece : List Entry) → length words ≡ 1024
       → IsDone b acts (loaded_hold frame words from) piece to → IsDone b (Loads frame ∷ acts) from piece to
 

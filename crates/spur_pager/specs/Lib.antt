@@ -25,3 +25,4 @@ pub mod Opening
 pub mod Opened
 pub mod Stored
 pub mod Few
+pub mod Ahead

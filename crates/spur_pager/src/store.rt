@@ -16,6 +16,6 @@ pub struct Store<B> {
     pub backing: B,
     /// The history.
     pub history: History,
-    /// How many lines of a leaving page are flushed ahead of need: 0 so far, and `serve` does not look at it.
+    /// How many lines of a leaving page a step ahead of need flushes, at most. Where it is 0, nothing is done ahead.
     pub ahead: u32,
 }

@@ -1,13 +1,14 @@
 //! Laws of a board's turn on the bus: what holds again after its steps, and how much of it is left. Each is shown by a
 //! function that does nothing.
 
+ghost use Rattle.spur_pager.specs.Ahead.{AheadFits};
 ghost use Rattle.spur_pager.specs.Again.{SameHasStepped, SameStandsAgain, StepHasStepped};
 ghost use Rattle.spur_pager.specs.Again.{StepStandsAgain, StepsAddUp, StepsStandAgain};
 ghost use Rattle.spur_pager.specs.Faults.{MovedFalls, PastIsNoFault, ServedFaultFalls, SteppedKeepsFaults};
 ghost use Rattle.spur_pager.specs.Few.{LeavingLinesStayFew, ServedLeavesFew};
 ghost use Rattle.spur_pager.specs.Opened.{AccessIsCarriedIn, NothingIsOpen, StepIsCarriedIn};
 ghost use Rattle.spur_pager.specs.Opening.{LayoutStands, OpeningStands};
-ghost use Rattle.spur_pager.specs.Reserve.{FaultHasRoom, MovedLeavesRoom, ServedLeavesRoom};
+ghost use Rattle.spur_pager.specs.Reserve.{AheadLeavesRoom, FaultHasRoom, MovedLeavesRoom, ServedLeavesRoom};
 ghost use Rattle.spur_pager.specs.Reserve.{StepsLeaveRoom, TurnRoomIsBounded};
 ghost use Rattle.spur_pager.specs.Stored.{HitStandsAgain};
 
@@ -58,13 +59,19 @@ pub fn faults_fall()
 
 /// What the rest of a turn may still append is one number. Where a fault answers that is served, it has room for the
 /// fault's entry and for serving it (`fault`), and then for the rest (`served`); a step lowers it by one (`moved`), and
-/// several by as many as they are (`steps`). It is never more than the numbers of frames and of caches say (`bounded`).
+/// several by as many as they are (`steps`), since none of them brings in a line of a leaving page. It is never more than
+/// the numbers of frames and of caches say (`bounded`).
+///
+/// A step ahead of need uses no more than what may be appended so that a page leaves (`fits`), which falls by what it
+/// uses. It leaves room for the rest of the turn, where there was room for both (`ahead`).
 pub fn turn_has_room()
     ensures fault { FaultHasRoom }
     ensures served { ServedLeavesRoom }
     ensures moved { MovedLeavesRoom }
     ensures steps { StepsLeaveRoom }
     ensures bounded { TurnRoomIsBounded }
+    ensures fits { AheadFits }
+    ensures ahead { AheadLeavesRoom }
 {}
 
 /// After a fault of an access was served, at most two steps towards it are left, and not more fills and claims of its

@@ -73,7 +73,7 @@ loaded_begins : (opening : Opening) (cpus : List PlainCpu) → IsLoadedOpening o
 loaded_begins opening cpus loaded are =
     let is = loaded.is in
     subst (λ (o : Opening). IsBeginning plain plain_of room_of o cpus) (sym is)
-    (loaded_may_begin loaded.unit opening.options cpus loaded.limits loaded.range loaded.ahead loaded.loads (subst (λ (o : Opening). AreAtBeginning o.code opening.options.budget cpus) is are))
+    (loaded_may_begin loaded.unit opening.options cpus loaded.limits loaded.range loaded.loads (subst (λ (o : Opening). AreAtBeginning o.code opening.options.budget cpus) is are))
 
 pub bare_begins : (opening : Opening) (code : List (List Instr)) (cpus : List PlainCpu) → IsLoadedOpening opening → AreAtBeginning opening.code opening.options.budget cpus
     → IsBeginning plain plain_of room_of (record opening { code = code }) cpus
@@ -82,7 +82,6 @@ bare_begins opening code cpus loaded are =
     let begins = may.begins in
     record {
       begins = record { boards = begins.boards; registers = begins.registers; options = begins.options; frames = begins.frames; valid = begins.valid; absent = begins.absent };
-      ahead = may.ahead;
       count = may.count;
       running = may.running;
       room = may.room;

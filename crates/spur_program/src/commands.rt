@@ -44,7 +44,6 @@ fn run_input<K: Sink, B: Backing>(
 ) -> Outcome<B>
     requires within { length input.now ≤ program_limit }
     requires options { IsOptions options }
-    requires ahead { options.ahead ≡ 0 }
     ensures answered { InputAnswered B.meaning (map (λ b. told (rule b) (reads b) (kept b)) probes.items)
         (Task.Run (Order.Scheduled schedule) options flags) input.now
         (K.written sink.old) (K.written sink.new) backing result }
@@ -74,7 +73,6 @@ fn run_input_on_threads<K: Sink, B: Backing + Send, G: Gate + Sync, R: Threads +
 ) -> Outcome<B>
     requires within { length input.now ≤ program_limit }
     requires options { IsOptions options }
-    requires ahead { options.ahead ≡ 0 }
     ensures answered { InputAnswered B.meaning (map (λ b. told (rule b) (reads b) (kept b)) probes.items)
         (Task.Run Order.Threads options flags) input.now
         (K.written sink.old) (K.written sink.new) backing result }
@@ -141,7 +139,6 @@ pub(crate) fn run_program<S: Source, K: Sink, B: Backing>(
     probes: Vec<Box<dyn Probe>>,
 ) -> Outcome<B>
     requires options { IsOptions options }
-    requires ahead { options.ahead ≡ 0 }
     ensures way { Way B.meaning (map (λ b. told (rule b) (reads b) (kept b)) probes.items)
         (Ok (Task.Run (Order.Scheduled schedule) options flags))
         (S.left source.old) (S.left source.new) (K.written sink.old) (K.written sink.new) backing result }
@@ -182,7 +179,6 @@ pub(crate) fn run_program_on_threads<
     probes: Vec<Box<dyn Probe>>,
 ) -> Outcome<B>
     requires options { IsOptions options }
-    requires ahead { options.ahead ≡ 0 }
     ensures way { Way B.meaning (map (λ b. told (rule b) (reads b) (kept b)) probes.items)
         (Ok (Task.Run Order.Threads options flags))
         (S.left source.old) (S.left source.new) (K.written sink.old) (K.written sink.new) backing result }

@@ -25,8 +25,8 @@ next_processor codes i room code cpus cpu within is are state spare =
     (processors_more (take i codes) (get_or codes i code) room cpus cpu are (state ∙ ap (λ (c : List Instr). opened c) is) spare)
 
 -- a world may begin with the opening of what a text says, and with these processors
-pub text_begins : (unit : Program) (options : Options) (opening : Opening) (cpus : List PlainCpu) → IsUnit unit → IsOptions options → options.ahead ≡ 0
+pub text_begins : (unit : Program) (options : Options) (opening : Opening) (cpus : List PlainCpu) → IsUnit unit → IsOptions options
     → opening ≡ opening_of unit options → load_fault_of unit options ≡ None → AreAtBeginning opening.code options.budget cpus → IsBeginning plain plain_of room_of opening cpus
-text_begins unit options opening cpus limits range ahead is accepted at =
+text_begins unit options opening cpus limits range is accepted at =
     subst (λ (o : Opening). IsBeginning plain plain_of room_of o cpus) (sym is)
-    (loaded_may_begin unit options cpus limits range ahead accepted (subst (λ (o : Opening). AreAtBeginning o.code options.budget cpus) is at))
+    (loaded_may_begin unit options cpus limits range accepted (subst (λ (o : Opening). AreAtBeginning o.code options.budget cpus) is at))

@@ -3,6 +3,7 @@
 
 ghost use Rattle.std.specs.Prelude.{◌<◌};
 
+use crate::ahead::THREE_PAGES_AHEAD_COUNTS;
 use crate::runs::{answer_to, words_in};
 use crate::texts::{
     HALT, LEAST, LEAST_OBJECT, ONE_FRAME, PAGE_TWICE, PAGE_TWICE_OBJECT, SEGMENT_255,
@@ -288,13 +289,13 @@ const PAGES: &[Run] = &[
         written: &[THREE_PAGES_ROWS, THREE_PAGES_COUNTS],
     },
     Run {
-        words: "sched 1 --frames 2 --counts",
+        words: "sched 1 --frames 2 --ahead 1 --counts",
         input: THREE_PAGES,
         status: Status::Fine,
-        written: &[THREE_PAGES_ROWS, THREE_PAGES_COUNTS],
+        written: &[THREE_PAGES_ROWS, THREE_PAGES_AHEAD_COUNTS],
     },
     Run {
-        words: "sched 1 --frames 1 --counts",
+        words: "sched 1 --frames 1 --ahead 128 --counts",
         input: ONE_FRAME,
         status: Status::Fine,
         written: &[ONE_FRAME_ROWS, ONE_FRAME_COUNTS],
@@ -440,6 +441,7 @@ const WORDS: &[(&str, u32)] = &[
     ("gen 0 1 513", 4),
     ("gen 7 4", 4),
     ("check --trace", 2),
+    ("sched 1 --ahead 129", 4),
     ("check --budget 0", 3),
 ];
 

@@ -82,8 +82,7 @@ pub(crate) struct Step {
 
 /// One data frame, 16 cache lines, and 5000 instructions a board, which fill a log more than once.
 fn options() -> Options
-    ensures range { IsOptions result }
-    ensures ahead { result.ahead ≡ 0 }
+    ensures { IsOptions result }
 {
     Options {
         frames: 1,
@@ -118,11 +117,24 @@ pub(crate) fn world_of<B: Backing + Drop>(
     ensures good { IfOk result (IsGoodWorld plain plain_of room_of B.meaning) }
     ensures empty { IfOk result (λ world. LogsAreEmpty world.boards.items) }
 {
+    world_under(alloc, text, options(), backing)
+}
+
+/// The world that begins with a text, under these options, with this swap object.
+pub(crate) fn world_under<B: Backing + Drop>(
+    alloc: Global,
+    text: &[u8],
+    options: Options,
+    backing: B,
+) -> Result<World<PlainCpu, B>, Fail>
+    requires { IsOptions options }
+    ensures good { IfOk result (IsGoodWorld plain plain_of room_of B.meaning) }
+    ensures empty { IfOk result (λ world. LogsAreEmpty world.boards.items) }
+{
     if text.len() > 1_048_576 {
         return Err(Fail::from("a text that is no longer than the program takes"));
     }
     let unit = assemble(alloc, text)?;
-    let options = options();
     let opening = load(alloc, &unit, &options)?;
     let cpus = processors(alloc, opening.code.as_slice(), options.budget)?;
     match World::begin(alloc, opening, cpus, backing) {

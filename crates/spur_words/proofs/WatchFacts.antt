@@ -45,6 +45,7 @@ no_number field.Pages = refl
 no_number field.Frames = refl
 no_number field.Lines = refl
 no_number field.Budget = refl
+no_number field.Ahead = refl
 no_number field.Watch = refl
 
 -- so a value is another word, and so is a command
@@ -119,6 +120,7 @@ flag_push : (f : Flag) (before : List (List ℕ)) (word : List ℕ) → IsNext b
 flag_push flag.Frames before word next few = other_push before word (ap is_watch next.name) few
 flag_push flag.Lines before word next few = other_push before word (ap is_watch next.name) few
 flag_push flag.Budget before word next few = other_push before word (ap is_watch next.name) few
+flag_push flag.Ahead before word next few = other_push before word (ap is_watch next.name) few
 flag_push flag.Counts before word next few = other_push before word (ap is_watch next.name) few
 flag_push flag.Trace before word next few = other_push before word (ap is_watch next.name) few
 flag_push flag.Late before word next few = other_push before word (ap is_watch next.name) few
@@ -186,6 +188,7 @@ flag_counted : (verb : Verb) (settings : Settings) (task : Task) (f : Flag) (bef
 flag_counted verb settings task flag.Frames before word words e is same = other_counted word words (ap is_watch e) same
 flag_counted verb settings task flag.Lines before word words e is same = other_counted word words (ap is_watch e) same
 flag_counted verb settings task flag.Budget before word words e is same = other_counted word words (ap is_watch e) same
+flag_counted verb settings task flag.Ahead before word words e is same = other_counted word words (ap is_watch e) same
 flag_counted verb settings task flag.Counts before word words e is same = other_counted word words (ap is_watch e) same
 flag_counted verb settings task flag.Trace before word words e is same = other_counted word words (ap is_watch e) same
 flag_counted verb settings task flag.Late before word words e is same = other_counted word words (ap is_watch e) same

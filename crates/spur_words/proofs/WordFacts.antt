@@ -14,7 +14,8 @@ use Rattle.spur_words.specs.declared.table.Flag.TheVariants as flag
 use Rattle.spur_words.specs.declared.table.Verb.{Verb}
 use Rattle.spur_words.specs.declared.table.Verb.TheVariants as verb
 use Rattle.spur_words.specs.declared.task.Task.{Task}
-use Rattle.spur_words.specs.Tasks.{AreOptions, IsTaskInRange, first_settings, fits_field, task_for, with_field, with_flag}
+use Rattle.spur_loader.specs.Limits.{IsOptions}
+use Rattle.spur_words.specs.Tasks.{IsTaskInRange, first_settings, fits_field, task_for, with_field, with_flag}
 use Rattle.spur_words.specs.Words.{command_fields, command_named, flag_fields, next_flag, number_behind, number_in, or_offends, task_from, task_of, with_number, filled_by}
 
 -- what a word says that doesn't offend
@@ -59,7 +60,7 @@ record AreInRange (settings : Settings) : Type 0 where
   frames : fits_field field.Frames settings.options.frames ≡ true
   lines : fits_field field.Lines settings.options.lines ≡ true
   budget : fits_field field.Budget settings.options.budget ≡ true
-  ahead : settings.options.ahead ≡ 0
+  ahead : fits_field field.Ahead settings.options.ahead ≡ true
 
 line_count : IsLineCount 4096
 line_count = record { exponent = 12; power = refl; some_lines = omega arith; few_lines = omega arith }
@@ -90,12 +91,15 @@ filled_in_range field.Lines settings n fine is =
     record { boards = fine.boards; pages = fine.pages; frames = fine.frames; lines = is; budget = fine.budget; ahead = fine.ahead }
 filled_in_range field.Budget settings n fine is =
     record { boards = fine.boards; pages = fine.pages; frames = fine.frames; lines = fine.lines; budget = is; ahead = fine.ahead }
+filled_in_range field.Ahead settings n fine is =
+    record { boards = fine.boards; pages = fine.pages; frames = fine.frames; lines = fine.lines; budget = fine.budget; ahead = is }
 filled_in_range field.Watch settings n fine is = fine
 
 flagged_in_range : (flag : Flag) (settings : Settings) → AreInRange settings → AreInRange (with_flag flag settings)
 flagged_in_range flag.Frames settings fine = fine
 flagged_in_range flag.Lines settings fine = fine
 flagged_in_range flag.Budget settings fine = fine
+flagged_in_range flag.Ahead settings fine = fine
 flagged_in_range flag.Watch settings fine = fine
 flagged_in_range flag.Counts settings fine =
     record { boards = fine.boards; pages = fine.pages; frames = fine.frames; lines = fine.lines; budget = fine.budget; ahead = fine.ahead }
@@ -127,21 +131,17 @@ lines_within n is =
     let range = within 16 4096 n parts.0 in
     (counted n (is_power_of_two n) refl range.0 range.1).0 parts.1
 
-options_in_range : (settings : Settings) → AreInRange settings → AreOptions settings.options
+options_in_range : (settings : Settings) → AreInRange settings → IsOptions settings.options
 options_in_range settings fine =
     let frames = within 1 3900 settings.options.frames fine.frames in
     let budget = within 1 250000 settings.options.budget fine.budget in
-    let none_ahead : settings.options.ahead ≡ 0 = fine.ahead in
     record {
-      range = record {
-        some_frames = frames.0;
-        few_frames = frames.1;
-        lines = lines_within settings.options.lines fine.lines;
-        some_budget = budget.0;
-        few_budget = budget.1;
-        ahead = omega arith;
-      };
-      ahead = none_ahead;
+      some_frames = frames.0;
+      few_frames = frames.1;
+      lines = lines_within settings.options.lines fine.lines;
+      some_budget = budget.0;
+      few_budget = budget.1;
+      ahead = leb-true settings.options.ahead 128 fine.ahead;
     }
 
 none_outside : (boards pages : ℕ) → is_between 1 12 boards ≡ true → is_between 1 512 pages ≡ true → outside boards pages ≡ None

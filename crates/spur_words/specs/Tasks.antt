@@ -1,8 +1,7 @@
 -- What the words of the command line set, and the task that is made of it.
-use Rattle.std.specs.Prelude.{ℕ, ◌≡◌, ◌≤◌, ◌^◌, ◌&&◌, Bool, true, false, nat_lt, None}
+use Rattle.std.specs.Prelude.{ℕ, ◌≡◌, ◌≤◌, ◌^◌, ◌&&◌, Bool, true, false, nat_le, nat_lt, None}
 use Rattle.std.specs.Int.{is_power_of_two}
 use Rattle.spur_loader.specs.Limits.{IsOptions}
-use Rattle.spur_loader.specs.declared.opening.Options.{Options}
 use Rattle.spur_gen.specs.Ranges.{is_between, outside}
 use Rattle.spur_words.specs.declared.settings.Settings.{Settings}
 use Rattle.spur_words.specs.declared.table.Field.{Field}
@@ -37,6 +36,7 @@ fits_field field.Pages n = is_between 1 512 n
 fits_field field.Frames n = is_between 1 3900 n
 fits_field field.Lines n = is_between 16 4096 n && is_power_of_two n
 fits_field field.Budget n = is_between 1 250000 n
+fits_field field.Ahead n = nat_le n 128
 fits_field field.Watch n = nat_lt n (2 ^ 38)
 
 abbrev pub with_field : Field → Settings → ℕ → Settings
@@ -47,6 +47,7 @@ with_field field.Pages settings n = record settings { pages = n }
 with_field field.Frames settings n = record settings { options = record settings.options { frames = n } }
 with_field field.Lines settings n = record settings { options = record settings.options { lines = n } }
 with_field field.Budget settings n = record settings { options = record settings.options { budget = n } }
+with_field field.Ahead settings n = record settings { options = record settings.options { ahead = n } }
 with_field field.Watch settings n = settings
 
 -- ---- what a flag sets by itself: one that has a value sets nothing more
@@ -55,6 +56,7 @@ abbrev pub with_flag : Flag → Settings → Settings
 with_flag flag.Frames settings = settings
 with_flag flag.Lines settings = settings
 with_flag flag.Budget settings = settings
+with_flag flag.Ahead settings = settings
 with_flag flag.Counts settings = record settings { flags = record settings.flags { counts = true } }
 with_flag flag.Trace settings = record settings { flags = record settings.flags { trace = true } }
 with_flag flag.Late settings = record settings { schedule = record settings.schedule { late = true } }
@@ -71,15 +73,10 @@ task_for verb.Gen settings = task.Gen settings.number settings.boards settings.p
 
 -- ---- the ranges of a task's numbers
 
--- the options of a run are in their ranges, and nothing is flushed ahead, since no flag says so yet
-pub record AreOptions (options : Options) : Type 0 where
-  pub range : IsOptions options
-  pub ahead : options.ahead ≡ 0
-
 -- a task's numbers are in their ranges: a run's options, a check's budget, and the numbers of a text that is generated
 -- where the generator has one of them
 abbrev pub IsTaskInRange : Task → Type 0
-IsTaskInRange (task.Run order options flags) = AreOptions options
+IsTaskInRange (task.Run order options flags) = IsOptions options
 IsTaskInRange (task.Check budget) = (1 ≤ budget) × (budget ≤ 250000)
 IsTaskInRange task.Asm = Unit {0}
 IsTaskInRange (task.Gen number boards pages) = outside boards pages ≡ None

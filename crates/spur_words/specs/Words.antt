@@ -7,7 +7,7 @@ use Rattle.spur_words.specs.declared.settings.Settings.{Settings}
 use Rattle.spur_words.specs.declared.table.Verb.{Verb}
 use Rattle.spur_words.specs.declared.table.Verb.TheVariants.{Run, Sched, Check, Asm, Gen}
 use Rattle.spur_words.specs.declared.table.Flag.{Flag}
-use Rattle.spur_words.specs.declared.table.Flag.TheVariants.{Frames, Lines, Budget, Counts, Trace, Late, Watch}
+use Rattle.spur_words.specs.declared.table.Flag.TheVariants.{Frames, Lines, Budget, Ahead, Counts, Trace, Late, Watch}
 use Rattle.spur_words.specs.declared.table.Field.{Field}
 use Rattle.spur_words.specs.declared.table.Field.TheVariants as field
 use Rattle.spur_words.specs.declared.task.Task.{Task}
@@ -23,6 +23,7 @@ abbrev pub flag_name : Flag → List ℕ
 flag_name Frames = codes "--frames"
 flag_name Lines = codes "--lines"
 flag_name Budget = codes "--budget"
+flag_name Ahead = codes "--ahead"
 flag_name Counts = codes "--counts"
 flag_name Trace = codes "--trace"
 flag_name Late = codes "--late"
@@ -32,6 +33,7 @@ abbrev pub flag_times : Flag → ℕ
 flag_times Frames = 1
 flag_times Lines = 1
 flag_times Budget = 1
+flag_times Ahead = 1
 flag_times Counts = 1
 flag_times Trace = 1
 flag_times Late = 1
@@ -41,6 +43,7 @@ abbrev pub flag_fields : Flag → List Field
 flag_fields Frames = field.Frames ∷ []
 flag_fields Lines = field.Lines ∷ []
 flag_fields Budget = field.Budget ∷ []
+flag_fields Ahead = field.Ahead ∷ []
 flag_fields Counts = []
 flag_fields Trace = []
 flag_fields Late = []
@@ -64,8 +67,8 @@ command_fields Asm = []
 command_fields Gen = field.Number ∷ field.Boards ∷ field.Pages ∷ []
 
 abbrev pub command_flags : Verb → List Flag
-command_flags Run = Frames ∷ Lines ∷ Budget ∷ Counts ∷ Trace ∷ []
-command_flags Sched = Frames ∷ Lines ∷ Budget ∷ Counts ∷ Trace ∷ Late ∷ Watch ∷ []
+command_flags Run = Frames ∷ Lines ∷ Budget ∷ Ahead ∷ Counts ∷ Trace ∷ []
+command_flags Sched = Frames ∷ Lines ∷ Budget ∷ Ahead ∷ Counts ∷ Trace ∷ Late ∷ Watch ∷ []
 command_flags Check = Budget ∷ []
 command_flags Asm = []
 command_flags Gen = []
@@ -105,6 +108,7 @@ number_in field.Pages word = decimal_of word
 number_in field.Frames word = decimal_of word
 number_in field.Lines word = decimal_of word
 number_in field.Budget word = decimal_of word
+number_in field.Ahead word = decimal_of word
 number_in field.Watch word = hexadecimal_of word
 
 -- the settings with the number of a word in a field, where the word is a number that may fill it

@@ -71,7 +71,8 @@ impl Field {
             | Field::Pages
             | Field::Frames
             | Field::Lines
-            | Field::Budget => decimal_of(word),
+            | Field::Budget
+            | Field::Ahead => decimal_of(word),
         }
     }
 }

@@ -112,8 +112,8 @@ fn read(words: &[String]) -> Result<Task, usize>
 /// 2^64-1; and behind `gen` stand a number from 0 to 2^32-1, 1 to 12 boards, and 1 to 512 pages. Flags follow in any
 /// order, each once but `--watch`, and the word behind a flag that has a value is its value. `run` and `sched` have
 /// `--frames` 1 to 3900 (256 without it), `--lines` a power of two from 16 to 4096 (4096), `--budget` 1 to 250000
-/// instructions (100000), and `--counts` and `--trace`, which have no value; `check` has `--budget` alone; `asm` and
-/// `gen` have no flag. Each of these numbers is 1 to 20 decimal digits, of which the first may be zeros.
+/// instructions (100000), `--ahead` 0 to 128 lines (0), and `--counts` and `--trace`, which have no value; `check` has
+/// `--budget` alone; `asm` and `gen` have no flag. Each of these numbers is 1 to 20 decimal digits, of which the first may be zeros.
 ///
 /// `sched` alone has `--late`, which has no value: the boards' logs are joined at turns on the bus and at the end alone.
 /// And it has `--watch`, up to 8 times. Its value is a global address: the number of a byte below 2^38, in 1 to 10

@@ -23,6 +23,7 @@ pub enum Flag {
     Frames,
     Lines,
     Budget,
+    Ahead,
     Counts,
     Trace,
     Late,
@@ -39,6 +40,7 @@ pub enum Field {
     Frames,
     Lines,
     Budget,
+    Ahead,
     Watch,
 }
 
@@ -77,6 +79,7 @@ impl Verb {
                 Flag::Frames,
                 Flag::Lines,
                 Flag::Budget,
+                Flag::Ahead,
                 Flag::Counts,
                 Flag::Trace,
             ],
@@ -84,6 +87,7 @@ impl Verb {
                 Flag::Frames,
                 Flag::Lines,
                 Flag::Budget,
+                Flag::Ahead,
                 Flag::Counts,
                 Flag::Trace,
                 Flag::Late,
@@ -131,6 +135,7 @@ impl Flag {
             Flag::Frames => b"--frames",
             Flag::Lines => b"--lines",
             Flag::Budget => b"--budget",
+            Flag::Ahead => b"--ahead",
             Flag::Counts => b"--counts",
             Flag::Trace => b"--trace",
             Flag::Late => b"--late",
@@ -143,8 +148,13 @@ impl Flag {
         ensures { result ≡ flag_times self }
     {
         match self {
-            Flag::Frames | Flag::Lines | Flag::Budget | Flag::Counts | Flag::Trace | Flag::Late =>
-                1,
+            Flag::Frames
+            | Flag::Lines
+            | Flag::Budget
+            | Flag::Ahead
+            | Flag::Counts
+            | Flag::Trace
+            | Flag::Late => 1,
             Flag::Watch => 8,
         }
     }
@@ -157,6 +167,7 @@ impl Flag {
             Flag::Frames => &[Field::Frames],
             Flag::Lines => &[Field::Lines],
             Flag::Budget => &[Field::Budget],
+            Flag::Ahead => &[Field::Ahead],
             Flag::Watch => &[Field::Watch],
             Flag::Counts | Flag::Trace | Flag::Late => &[],
         }
@@ -168,7 +179,7 @@ impl Flag {
     {
         let mut set = settings;
         match self {
-            Flag::Frames | Flag::Lines | Flag::Budget | Flag::Watch => {}
+            Flag::Frames | Flag::Lines | Flag::Budget | Flag::Ahead | Flag::Watch => {}
             Flag::Counts => set.flags.counts = true,
             Flag::Trace => set.flags.trace = true,
             Flag::Late => set.schedule.late = true,
@@ -190,6 +201,7 @@ impl Field {
             Field::Frames => 1 <= number && number <= 3900,
             Field::Lines => 16 <= number && number <= 4096 && number.is_power_of_two(),
             Field::Budget => 1 <= number && number <= 250_000,
+            Field::Ahead => number <= 128,
             Field::Watch => number < 1 << 38,
         }
     }
@@ -208,6 +220,7 @@ impl Field {
             Field::Frames => filled.options.frames = number as u32,
             Field::Lines => filled.options.lines = number as u32,
             Field::Budget => filled.options.budget = number as u32,
+            Field::Ahead => filled.options.ahead = number as u32,
             Field::Watch => {}
         }
         filled

@@ -140,6 +140,35 @@ fn words_choose_the_order_and_the_options(rt: HostRuntime) -> Result<(), Fail> {
 }
 
 #[test]
+fn words_choose_how_many_lines_are_flushed_ahead(rt: HostRuntime) -> Result<(), Fail> {
+    let rows: [(Row, Order, u32); 4] = [
+        (&["run", "--ahead", "0"], Order::Threads, 0),
+        (&["run", "--ahead", "128"], Order::Threads, 128),
+        (&["run", "--ahead", "007"], Order::Threads, 7),
+        (
+            &["sched", "1", "--ahead", "1"],
+            Order::Scheduled(Schedule {
+                start: 1,
+                late: false,
+            }),
+            1,
+        ),
+    ];
+    for (row, order, ahead) in rows {
+        let task = Task::Run {
+            order,
+            options: Options { ahead, ..DEFAULT },
+            flags: Flags {
+                counts: false,
+                trace: false,
+            },
+        };
+        assert_eq!(rt; task_in(rt.alloc(), row)?, Ok(task), "{row:?}");
+    }
+    Ok(())
+}
+
+#[test]
 fn words_choose_what_a_report_has(rt: HostRuntime) -> Result<(), Fail> {
     let two = Options {
         frames: 2,
@@ -223,13 +252,16 @@ fn words_choose_what_runs_nothing(rt: HostRuntime) -> Result<(), Fail> {
 
 #[test]
 fn the_first_offending_word_of_a_run_is_told(rt: HostRuntime) -> Result<(), Fail> {
-    let rows: [(Row, usize); 29] = [
+    let rows: [(Row, usize); 32] = [
         (&[], 1),
         (&["Run"], 1),
         (&["--budget", "5"], 1),
         (&["run", "more"], 2),
         (&["run", "1"], 2),
-        (&["run", "--ahead", "0"], 2),
+        (&["run", "--ahead"], 3),
+        (&["run", "--ahead", "129"], 3),
+        (&["sched", "1", "--ahead", "-1"], 4),
+        (&["sched", "1", "--ahead", "1", "--ahead", "1"], 5),
         (&["run", "--watch", "40"], 2),
         (&["sched"], 2),
         (&["sched", "--lines", "16"], 2),
@@ -265,7 +297,7 @@ fn the_first_offending_word_of_a_run_is_told(rt: HostRuntime) -> Result<(), Fail
 
 #[test]
 fn the_first_offending_word_of_what_runs_nothing_is_told(rt: HostRuntime) -> Result<(), Fail> {
-    let rows: [(Row, usize); 18] = [
+    let rows: [(Row, usize); 19] = [
         (&["gen"], 2),
         (&["gen", "1"], 3),
         (&["gen", "1", "2"], 4),
@@ -278,6 +310,7 @@ fn the_first_offending_word_of_what_runs_nothing_is_told(rt: HostRuntime) -> Res
         (&["asm", "more"], 2),
         (&["asm", "--counts"], 2),
         (&["check", "--frames", "1"], 2),
+        (&["check", "--ahead", "0"], 2),
         (&["check", "--counts"], 2),
         (&["check", "5"], 2),
         (&["check", "--budget"], 3),

@@ -47,7 +47,7 @@ returns-in_default-clause-reaches g c =
     let now = c.loop-kind.invariant in
     let a : Approaches c.args.b c.args.at (need_of c.args.access) u v None = subst (λ (n : Need). Approaches c.args.b c.args.at n u v None) c.need_for-need.ensures
     (subst (λ (r : Option FaultKind). Approaches c.args.b c.args.at c.need_for-need.result u v r) (none_of c.approach.result (λ kind is. c.in_default.not-Some kind is)) c.approach.ensures.approaches) in
-    becomes_ready c.args.b c.args.at c.args.access w u v now.entries now.faults now.comes now.tallies a now.room
+    becomes_ready c.args.b c.args.at c.args.access w u v now.entries now.faults now.comes now.tallies a c.requires.stands c.frames.ensures.table now.room
 
 pub returns-in_default-clause-lens : goal.returns-in_default-clause-lens
 returns-in_default-clause-lens g c =
@@ -66,7 +66,7 @@ append-requires g c =
     let now = c.loop-kind.invariant in
     let within = subst (λ (n : ℕ). b < n) (sym (length-map c.args.boards.now lens.lines_of)) c.requires.own in
     let a : Approaches b at (need_of access) u v (Some kind) = subst (λ (n : Need). Approaches b at n u v (Some kind)) c.need_for-need.ensures c.in-Some.ensures.approaches in
-    fault_room u v b at (need_of access) (Some kind) a now.room
+    fault_room u v b at (need_of access) (Some kind) a (servable_now b at access w u now.entries now.faults [] now.comes c.requires.stands) c.frames.ensures.table now.room
 
 pub returns-then-ends-clause-reaches : goal.returns-then-ends-clause-reaches
 returns-then-ends-clause-reaches g c =
@@ -82,7 +82,7 @@ returns-then-ends-clause-reaches g c =
     let within = subst (λ (n : ℕ). b < n) (sym (length-map c.args.boards.now lens.lines_of)) c.requires.own in
     let a : Approaches b at (need_of access) u v (Some kind) = subst (λ (n : Need). Approaches b at n u v (Some kind)) c.need_for-need.ensures c.in-Some.ensures.approaches in
     let z : View = record v { history = c.append.new.self.entries; room = c.append.new.self.room } in
-    let f = faulted b at access kind w u v now.entries now.faults c.append.new.self.entries c.append.new.self.room c.requires.stands within c.requires.user c.requires.aligned now.comes now.tallies a now.room c.append.ensures.entry c.append.ensures.room in
+    let f = faulted b at access kind w u v now.entries now.faults c.append.new.self.entries c.append.new.self.room c.requires.stands within c.requires.user c.requires.aligned now.comes now.tallies a c.frames.ensures.table now.room c.append.ensures.entry c.append.ensures.room in
     ends_by_fault b at access kind w z _ now.faults f (sym c.ends.ensures ∙ c.if-ends.true)
 
 pub returns-then-ends-clause-lens : goal.returns-then-ends-clause-lens
@@ -102,7 +102,7 @@ serve-requires-clause-stands g c =
     let now = c.loop-kind.invariant in
     let within = subst (λ (n : ℕ). b < n) (sym (length-map c.args.boards.now lens.lines_of)) c.requires.own in
     let a : Approaches b at (need_of access) u v (Some kind) = subst (λ (n : Need). Approaches b at n u v (Some kind)) c.need_for-need.ensures c.in-Some.ensures.approaches in
-    let f = faulted b at access kind w u v now.entries now.faults c.append.new.self.entries c.append.new.self.room c.requires.stands within c.requires.user c.requires.aligned now.comes now.tallies a now.room c.append.ensures.entry c.append.ensures.room in
+    let f = faulted b at access kind w u v now.entries now.faults c.append.new.self.entries c.append.new.self.room c.requires.stands within c.requires.user c.requires.aligned now.comes now.tallies a c.frames.ensures.table now.room c.append.ensures.entry c.append.ensures.room in
     f.servable
 
 pub serve-requires-clause-fault : goal.serve-requires-clause-fault
@@ -119,7 +119,7 @@ serve-requires-clause-fault g c =
     let within = subst (λ (n : ℕ). b < n) (sym (length-map c.args.boards.now lens.lines_of)) c.requires.own in
     let a : Approaches b at (need_of access) u v (Some kind) = subst (λ (n : Need). Approaches b at n u v (Some kind)) c.need_for-need.ensures c.in-Some.ensures.approaches in
     let z : View = record v { history = c.append.new.self.entries; room = c.append.new.self.room } in
-    let f = faulted b at access kind w u v now.entries now.faults c.append.new.self.entries c.append.new.self.room c.requires.stands within c.requires.user c.requires.aligned now.comes now.tallies a now.room c.append.ensures.entry c.append.ensures.room in
+    let f = faulted b at access kind w u v now.entries now.faults c.append.new.self.entries c.append.new.self.room c.requires.stands within c.requires.user c.requires.aligned now.comes now.tallies a c.frames.ensures.table now.room c.append.ensures.entry c.append.ensures.room in
     has_fault b at access kind w z _ now.faults f (sym c.ends.ensures ∙ c.if-ends.false)
 
 pub serve-requires-clause-room : goal.serve-requires-clause-room
@@ -136,7 +136,7 @@ serve-requires-clause-room g c =
     let within = subst (λ (n : ℕ). b < n) (sym (length-map c.args.boards.now lens.lines_of)) c.requires.own in
     let a : Approaches b at (need_of access) u v (Some kind) = subst (λ (n : Need). Approaches b at n u v (Some kind)) c.need_for-need.ensures c.in-Some.ensures.approaches in
     let z : View = record v { history = c.append.new.self.entries; room = c.append.new.self.room } in
-    let f = faulted b at access kind w u v now.entries now.faults c.append.new.self.entries c.append.new.self.room c.requires.stands within c.requires.user c.requires.aligned now.comes now.tallies a now.room c.append.ensures.entry c.append.ensures.room in
+    let f = faulted b at access kind w u v now.entries now.faults c.append.new.self.entries c.append.new.self.room c.requires.stands within c.requires.user c.requires.aligned now.comes now.tallies a c.frames.ensures.table now.room c.append.ensures.entry c.append.ensures.room in
     fault_fits b at access kind w z _ now.faults c.requires.user f (sym c.ends.ensures ∙ c.if-ends.false)
 
 pub returns-then-is_err-clause-reaches : goal.returns-then-is_err-clause-reaches
@@ -154,7 +154,7 @@ returns-then-is_err-clause-reaches g c =
     let a : Approaches b at (need_of access) u v (Some kind) = subst (λ (n : Need). Approaches b at n u v (Some kind)) c.need_for-need.ensures c.in-Some.ensures.approaches in
     let z : View = record v { history = c.append.new.self.entries; room = c.append.new.self.room } in
     let y : View = seen g.B.Backing.meaning lens c.serve.new.boards c.serve.new.store in
-    let f = faulted b at access kind w u v now.entries now.faults c.append.new.self.entries c.append.new.self.room c.requires.stands within c.requires.user c.requires.aligned now.comes now.tallies a now.room c.append.ensures.entry c.append.ensures.room in
+    let f = faulted b at access kind w u v now.entries now.faults c.append.new.self.entries c.append.new.self.room c.requires.stands within c.requires.user c.requires.aligned now.comes now.tallies a c.frames.ensures.table now.room c.append.ensures.entry c.append.ensures.room in
     ends_by_swap b at access kind w z y _ now.faults c.serve.result f (sym c.is_err.ensures.value ∙ c.if-is_err.true) c.serve.ensures.err c.serve.ensures.does c.serve.ensures.carried c.serve.ensures.keeps c.serve.ensures.counts.later
 
 pub returns-then-is_err-clause-lens : goal.returns-then-is_err-clause-lens
@@ -178,7 +178,7 @@ loop-kind-smaller g c =
     let a : Approaches b at (need_of access) u v (Some kind) = subst (λ (n : Need). Approaches b at n u v (Some kind)) c.need_for-need.ensures c.in-Some.ensures.approaches in
     let z : View = record v { history = c.append.new.self.entries; room = c.append.new.self.room } in
     let y : View = seen g.B.Backing.meaning lens c.serve.new.boards c.serve.new.store in
-    let f = faulted b at access kind w u v now.entries now.faults c.append.new.self.entries c.append.new.self.room c.requires.stands within c.requires.user c.requires.aligned now.comes now.tallies a now.room c.append.ensures.entry c.append.ensures.room in
+    let f = faulted b at access kind w u v now.entries now.faults c.append.new.self.entries c.append.new.self.room c.requires.stands within c.requires.user c.requires.aligned now.comes now.tallies a c.frames.ensures.table now.room c.append.ensures.entry c.append.ensures.room in
     let ok = succeeded c.serve.result (sym c.is_err.ensures.value ∙ c.if-is_err.false) in
     let served : IsServed b z kind at y = succeeded_with (IsServed b z kind at y) c.serve.result ok c.serve.ensures.ok in
     let does = subst (λ (r : Result (Unit {0}) ServeFault). Does b z kind at r y) ok c.serve.ensures.does in
@@ -200,7 +200,7 @@ loop-kind-preserved g c =
     let a : Approaches b at (need_of access) u v (Some kind) = subst (λ (n : Need). Approaches b at n u v (Some kind)) c.need_for-need.ensures c.in-Some.ensures.approaches in
     let z : View = record v { history = c.append.new.self.entries; room = c.append.new.self.room } in
     let y : View = seen g.B.Backing.meaning lens c.serve.new.boards c.serve.new.store in
-    let f = faulted b at access kind w u v now.entries now.faults c.append.new.self.entries c.append.new.self.room c.requires.stands within c.requires.user c.requires.aligned now.comes now.tallies a now.room c.append.ensures.entry c.append.ensures.room in
+    let f = faulted b at access kind w u v now.entries now.faults c.append.new.self.entries c.append.new.self.room c.requires.stands within c.requires.user c.requires.aligned now.comes now.tallies a c.frames.ensures.table now.room c.append.ensures.entry c.append.ensures.room in
     let ok = succeeded c.serve.result (sym c.is_err.ensures.value ∙ c.if-is_err.false) in
     let served : IsServed b z kind at y = succeeded_with (IsServed b z kind at y) c.serve.result ok c.serve.ensures.ok in
     let does = subst (λ (r : Result (Unit {0}) ServeFault). Does b z kind at r y) ok c.serve.ensures.does in

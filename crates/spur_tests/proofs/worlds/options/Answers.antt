@@ -1,8 +1,8 @@
 use Rattle.std.proofs.Common.{refl, arith}
 use Rattle.spur_tests.proofs.worlds.options.Goals as goal
 
-pub returns-clause-range : goal.returns-clause-range
-returns-clause-range c = record {
+pub returns : goal.returns
+returns c = record {
   some_frames = omega arith;
   few_frames = omega arith;
   lines = record { exponent = 4; power = refl; some_lines = omega arith; few_lines = omega arith };

@@ -1,13 +1,10 @@
-use Rattle.std.proofs.Common.{◌≡◌, ◌<◌, ◌≤◌, ◌∙◌, ℕ, List, Some, length, refl, subst, sym, arith, rules}
+use Rattle.std.proofs.Common.{◌≡◌, ◌<◌, ◌≤◌, ◌∙◌, ℕ, List, Some, length, refl, subst, sym, rules}
 use Rattle.std.specs.Prelude.{slice_get}
-use Rattle.std.proofs.lemmas.List.{length-map}
 use Rattle.std.proofs.lemmas.Option.{slice_get_read}
 use Rattle.spur_addr.specs.Address.{table_start}
 use Rattle.spur_walk.specs.Laws.{need_of}
 use Rattle.spur_pager.specs.Reserve.{turn_room}
 use Rattle.spur_pager.specs.Stand.{IsServable}
-use Rattle.spur_pager.specs.View.{View}
-use Rattle.spur_pager.proofs.ReserveFacts.{turn-room-is-bounded}
 use Rattle.spur_board.specs.declared.board.Board.{Board}
 use Rattle.spur_core.specs.Boards.{LogsAreEmpty, view_in}
 use Rattle.spur_core.specs.Good.{IsGood}
@@ -42,13 +39,7 @@ take-requires-clause-stands g c =
 
 pub take-requires-clause-room : goal.take-requires-clause-room
 take-requires-clause-room g c =
-    let boards : List (Board g.row.C.Denot) = c.args.self.now.boards.items in
-    let w : View = view_in g.B.Backing.meaning c.args.self.now.store boards in
-    let most = turn-room-is-bounded w c.args.b c.global-at.result (need_of c.in-Access.kind) in
-    let count : length w.caches ≡ length boards = length-map boards (λ (x : Board g.row.C.Denot). x.cache) in
-    let room = c.requires.room in
-    let enough : turn_room w c.args.b c.global-at.result (need_of c.in-Access.kind) ≤ c.args.self.now.store.history.room = omega arith in
-    subst (λ (bs : List (Board g.row.C.Denot)). turn_room (view_in g.B.Backing.meaning c.args.self.now.store bs) c.args.b c.global-at.result (need_of c.in-Access.kind) ≤ c.args.self.now.store.history.room) (sym c.deref_mut.ensures.value) enough
+    subst (λ (bs : List (Board g.row.C.Denot)). turn_room (view_in g.B.Backing.meaning c.args.self.now.store bs) c.args.b c.global-at.result (need_of c.in-Access.kind) ≤ c.args.self.now.store.history.room) (sym c.deref_mut.ensures.value) (c.requires.room c.global-at.result (need_of c.in-Access.kind))
 
 pub returns-clause-good : goal.returns-clause-good
 returns-clause-good g c =
